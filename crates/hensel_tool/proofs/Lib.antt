@@ -1,0 +1,12 @@
+pub mod Cuts
+pub mod NumberTexts
+pub mod PlainReadings
+pub mod PlainSeries
+pub mod PlainLines
+pub mod PlainBlock
+pub mod PlainFactors
+pub mod PlainTexts
+pub mod Outputs
+pub mod Inputs
+pub mod OneWord
+pub mod PlainRead

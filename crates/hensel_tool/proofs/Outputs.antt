@@ -1,0 +1,156 @@
+-- What the program's parts give: the one output, and what was written of it.
+use Rattle.std.proofs.Common.{◌≡◌, ◌≢◌, ℕ, ◌<◌, List, [], length, refl, sym, ◌∙◌, ap, subst}
+use Rattle.std.proofs.Common.{arith, Option, Some, None, ◌⊎◌, inl, inr}
+use Rattle.std.proofs.lemmas.Option.{none-some}
+use Rattle.std.proofs.lemmas.Bool.Decides.{eqb_tells}
+use Rattle.std.proofs.lemmas.List.{append-nil}
+use Rattle.ports.specs.Bytes.{WritesAll, WritesPart}
+use Rattle.hensel_tool.specs.Plain.{Plain, IsPlain}
+use Rattle.hensel_tool.specs.PlainReading.{plain_of}
+use Rattle.hensel_tool.specs.PlainText.{plain_text}
+use Rattle.hensel_tool.specs.Block.{IsBlock}
+use Rattle.hensel_tool.specs.Output.{factor_words, not_built, usage_line, IsOutput}
+use Rattle.hensel_tool.specs.Calls.{IsLeft, IsKnown, WritesBeginning, Outputs, OutputsPart}
+use Rattle.hensel_tool.proofs.PlainFactors.{plain_block}
+use Rattle.hensel_tool.proofs.PlainReadings.{plain_of_is, plain_of_same}
+
+-- refused words have the usage line
+pub usage_output : (words : List (List ℕ)) (input : List ℕ) → words ≢ factor_words → IsOutput words input usage_line 2
+usage_output words input other = inl (record { refused = other; text_is = refl; status_is = refl })
+
+-- an input that isn't of the form is refused
+pub refusal_output : (input : List ℕ) → ((s : Plain) → IsPlain input s → ⊥) → IsOutput factor_words input not_built 1
+refusal_output input other =
+    inr (inr (record { taken = refl; other = other; text_is = refl; status_is = refl }))
+
+-- so is one that is longer than any script of the form
+pub long_output : (input : List ℕ) → 65536 < length input → IsOutput factor_words input not_built 1
+long_output input long = refusal_output input (λ s is. let short = is.short in absurd (omega arith))
+
+-- an input of the form has its block
+pub answer_output : (input : List ℕ) (s : Plain) (text : List ℕ) → IsPlain input s → IsBlock s text
+    → IsOutput factor_words input text 0
+answer_output input s text plain block =
+    inr (inl (record { taken = refl; script = s; plain = plain; block = block; status_is = refl }))
+
+-- each input has an output
+pub some_output : (input : List ℕ) → (text : List ℕ) × (status : ℕ) × IsOutput factor_words input text status
+some_output input = by_reading (plain_of input) refl
+  where
+    by_reading : (o : Option Plain) → plain_of input ≡ o
+        → (text : List ℕ) × (status : ℕ) × IsOutput factor_words input text status
+    by_reading None read =
+        (not_built, 1, refusal_output input (λ s is. none-some s (sym read ∙ plain_of_same input s is)))
+    by_reading (Some s) read =
+        let plain = plain_of_is input s read in
+        (plain_text s, 0, answer_output input s (plain_text s) plain (plain_block s (plain_text s) plain.power_is.1 refl))
+
+-- the words and the input have one status
+pub status_once : (words : List (List ℕ)) (input text text' : List ℕ) (status status' : ℕ)
+    → IsOutput words input text status → IsOutput words input text' status' → status ≡ status'
+status_once words input text text' status status' (inl a) (inl b) = a.status_is ∙ sym b.status_is
+status_once words input text text' status status' (inl a) (inr (inl b)) = absurd (a.refused b.taken)
+status_once words input text text' status status' (inl a) (inr (inr b)) = absurd (a.refused b.taken)
+status_once words input text text' status status' (inr (inl a)) (inl b) = absurd (b.refused a.taken)
+status_once words input text text' status status' (inr (inl a)) (inr (inl b)) = a.status_is ∙ sym b.status_is
+status_once words input text text' status status' (inr (inl a)) (inr (inr b)) = absurd (b.other a.script a.plain)
+status_once words input text text' status status' (inr (inr a)) (inl b) = absurd (b.refused a.taken)
+status_once words input text text' status status' (inr (inr a)) (inr (inl b)) = absurd (a.other b.script b.plain)
+status_once words input text text' status status' (inr (inr a)) (inr (inr b)) = a.status_is ∙ sym b.status_is
+
+-- the same text and status for refused words, whatever the input
+pub status_refused : (words : List (List ℕ)) (input input' text text' : List ℕ) (status status' : ℕ) → words ≢ factor_words
+    → IsOutput words input text status → IsOutput words input' text' status' → status ≡ status'
+status_refused words input input' text text' status status' other (inl a) (inl b) = a.status_is ∙ sym b.status_is
+status_refused words input input' text text' status status' other (inl a) (inr (inl b)) = absurd (other b.taken)
+status_refused words input input' text text' status status' other (inl a) (inr (inr b)) = absurd (other b.taken)
+status_refused words input input' text text' status status' other (inr (inl a)) b = absurd (other a.taken)
+status_refused words input input' text text' status status' other (inr (inr a)) b = absurd (other a.taken)
+
+-- what was written
+pub beginning_of_part : (w w' : Option (List ℕ)) (text : List ℕ) → WritesPart w w' text → WritesBeginning w w' text
+beginning_of_part None w' text h = h
+beginning_of_part (Some bytes) w' text h = (h.0, h.2)
+
+pub nothing_written : (w : Option (List ℕ)) (text : List ℕ) → WritesBeginning w w text
+nothing_written None text = refl
+nothing_written (Some bytes) text = (0, ap (λ (l : List ℕ). Some l) (sym (append-nil bytes)))
+
+-- a whole text that was written, with its status
+pub outputs_done : (words : List (List ℕ)) (left w w' : Option (List ℕ)) (input text : List ℕ) (status r : ℕ)
+    → IsLeft left input → IsOutput words input text status → ((r ≡ 4 → ⊥) → (r ≡ status) × WritesAll w w' text) → r < 3
+    → Outputs words left w w' r
+outputs_done words left w w' input text status r is_left output done low =
+    let all = done (λ e. absurd (omega arith)) in
+    record {
+      input = input;
+      is_left = is_left;
+      text = text;
+      output = subst (IsOutput words input text) (sym all.0) output;
+      writes = all.1;
+    }
+
+-- a text of which a part was written
+pub outputs_part : (words : List (List ℕ)) (left w w' : Option (List ℕ)) (input text : List ℕ) (status r : ℕ) → status < 3
+    → IsLeft left input → IsOutput words input text status → ((r ≡ 4 → ⊥) → (r ≡ status) × WritesAll w w' text)
+    → (r ≡ 4 → WritesPart w w' text) → (r ≡ 4) ⊎ (r ≡ 5) → OutputsPart words left w w'
+outputs_part words left w w' input text status r low is_left output done failed (inl four) = record {
+  input = input;
+  is_left = is_left;
+  text = text;
+  status = status;
+  output = output;
+  writes = beginning_of_part w w' text (failed four);
+}
+outputs_part words left w w' input text status r low is_left output done failed (inr five) =
+    absurd (let same = (done (λ four. absurd (omega arith))).0 in omega arith)
+
+-- an output of which nothing was written
+pub outputs_nothing : (left w : Option (List ℕ)) (input : List ℕ) → IsLeft left input → OutputsPart factor_words left w w
+outputs_nothing left w input is_left =
+    let some = some_output input in
+    record {
+      input = input;
+      is_left = is_left;
+      text = some.0;
+      status = some.1;
+      output = some.2;
+      writes = nothing_written w some.0;
+    }
+
+-- some input is what a source has left
+pub some_input : (left : Option (List ℕ)) → (input : List ℕ) × IsLeft left input
+some_input None = ([], tt)
+some_input (Some bytes) = (bytes, refl)
+
+-- the input that was told is the source's
+pub told_outputs : (words : List (List ℕ)) (left w w' : Option (List ℕ)) (input : List ℕ) (r : ℕ) → IsLeft left input
+    → Outputs words (Some input) w w' r → Outputs words left w w' r
+told_outputs words left w w' input r is_left o =
+    record { input = o.input; is_left = subst (IsLeft left) o.is_left is_left; text = o.text; output = o.output; writes = o.writes }
+
+pub told_part : (words : List (List ℕ)) (left w w' : Option (List ℕ)) (input : List ℕ) → IsLeft left input
+    → OutputsPart words (Some input) w w' → OutputsPart words left w w'
+told_part words left w w' input is_left o = record {
+  input = o.input;
+  is_left = subst (IsLeft left) o.is_left is_left;
+  text = o.text;
+  status = o.status;
+  output = o.output;
+  writes = o.writes;
+}
+
+-- with a known input the status is that of its output
+pub status_is : (words : List (List ℕ)) (left w w' : Option (List ℕ)) (input text : List ℕ) (status r : ℕ)
+    → IsKnown words left input → IsOutput words input text status → Outputs words left w w' r → r ≡ status
+status_is words None w w' input text status r other output o =
+    status_refused words o.input input o.text text r status other o.output output
+status_is words (Some bytes) w w' input text status r is output o =
+    let same : o.input ≡ input = sym o.is_left ∙ is in
+    status_once words input o.text text r status (subst (λ (i : List ℕ). IsOutput words i o.text r) same o.output) output
+
+-- without a fault the status is the output's, or that of memory
+pub complete_of : (r status : ℕ) → ((r ≡ 4 → ⊥) → (r ≡ 5 → ⊥) → r < 3) → (r ≡ 4 → ⊥) → (r < 3 → r ≡ status)
+    → (r ≡ status) ⊎ (r ≡ 5)
+complete_of r status low no_fault known =
+    elim (eqb_tells r 5) [ inl five ↦ inr five.1 | inr other ↦ inl (known (low no_fault other.1)) ]

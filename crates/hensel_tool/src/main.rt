@@ -1,0 +1,45 @@
+//! `hensel_tool`: factors a monic polynomial in Y over power series modulo a number, by its roots at the origin.
+#![tactic(auto)]
+
+// the words of the command line
+mod words;
+
+// pieces of a text: cuts, prefixes, numbers and names
+mod reading;
+
+// scripts of the plain form
+mod plain;
+
+// the text of a plain script's block
+mod block;
+
+// the program's work, from bytes to bytes
+mod program;
+#[cfg(test)]
+mod tests;
+
+use ports::{StdSink, StdSource};
+pub use program::run;
+use std::env::{self, Env};
+use std::process::ExitCode;
+
+fn main(rt: HostRuntime) -> ExitCode {
+    let words = given_words(&rt);
+    let mut source = StdSource::new(rt.stdin());
+    let mut sink = StdSink::new(rt.stdout());
+    let status = run(&rt, rt.alloc(), words.as_slice(), &mut source, &mut sink);
+    ExitCode::from(status)
+}
+
+/// The words after the program's own name. Words that can't be had are none, which are refused.
+fn given_words<R: Env + AllocGlobal>(rt: &R) -> Vec<String> {
+    let mut words = Vec::new(rt.alloc());
+    if let Ok(all) = env::args(rt) {
+        for word in all.skip(1) {
+            if words.push(word).is_err() {
+                return Vec::new(rt.alloc());
+            }
+        }
+    }
+    words
+}

@@ -1,0 +1,139 @@
+use Rattle.std.proofs.Common.{◌≡◌, ℕ, ◌++◌, List, [], ◌∷◌, refl, lit<}
+use Rattle.std.specs.Prelude.{codes}
+use Rattle.std.specs.Fmt.{digits}
+use Rattle.ps_model.specs.Keys.{Key}
+use Rattle.ps_model.specs.Polynomial.{polynomial, terms}
+use Rattle.ps_model.specs.SeriesRing.{SeriesRing, ring}
+use Rattle.ps_model.specs.Job.{series_ring, job_ring}
+use Rattle.ps_model.specs.Examples.{key, split_job, split_factors, two_variables, double_root_job}
+use Rattle.ps_model.specs.Examples.{double_root_factors, double_root_start, quadratic_job, quadratic_factors}
+use Rattle.ps_model.specs.BlockText.{power_line, block_text}
+use Rattle.ps_model.proofs.FormalSums.{terms_are}
+use Rattle.ps_model.proofs.examples.blocks.Goals as goal
+
+abbrev S : SeriesRing
+S = job_ring split_job
+
+abbrev first : List (Key S.variables × ℕ)
+first = (key S.variables [] 1, 1) ∷ (key S.variables (1 ∷ []) 0, 14) ∷ []
+
+abbrev second : List (Key S.variables × ℕ)
+second = (key S.variables [] 1, 1) ∷ (key S.variables [] 0, 14) ∷ (key S.variables (1 ∷ []) 0, 1) ∷ []
+
+first_terms : terms (ring S) (polynomial (ring S) first) ≡ (key S.variables [] 1, 1)
+    ∷ (key S.variables (1 ∷ []) 0, 14) ∷ []
+unfolding series_ring
+first_terms = terms_are (ring S) first _ refl tt (lit< tt, lit< tt, (lit< tt, lit< tt, tt))
+
+second_terms : terms (ring S) (polynomial (ring S) second) ≡ (key S.variables [] 1, 1)
+    ∷ (key S.variables (1 ∷ []) 0, 1) ∷ (key S.variables [] 0, 14) ∷ []
+unfolding series_ring
+second_terms = terms_are (ring S) second _ refl tt (lit< tt, lit< tt, (lit< tt, lit< tt, (lit< tt, lit< tt, tt)))
+
+the_block : block_text S (codes "x" ∷ []) split_job.roots split_factors 1
+    ≡ codes "precision 1\n" ++ codes "factor 1 root 0 times 1\n" ++ codes "Y^1: 1\n" ++ codes "Y^0: 14*x\n"
+    ++ codes "factor 2 root 1 times 1\n" ++ codes "Y^1: 1\n" ++ codes "Y^0: 14 + 1*x\n"
+unfolding series_ring digits
+the_block = rw (first_terms, second_terms) refl
+
+abbrev Q : SeriesRing
+Q = job_ring double_root_job
+
+abbrev square : List (Key Q.variables × ℕ)
+square = (key Q.variables [] 2, 1) ∷ []
+
+abbrev square_and_x : List (Key Q.variables × ℕ)
+square_and_x = (key Q.variables [] 2, 1) ∷ (key Q.variables (1 ∷ []) 0, 1) ∷ []
+
+abbrev linear : List (Key Q.variables × ℕ)
+linear = (key Q.variables [] 1, 1) ∷ (key Q.variables [] 0, 6) ∷ []
+
+square_terms : terms (ring Q) (polynomial (ring Q) square) ≡ square
+unfolding series_ring
+square_terms = terms_are (ring Q) square square refl tt (lit< tt, lit< tt, tt)
+
+square_and_x_terms : terms (ring Q) (polynomial (ring Q) square_and_x) ≡ square_and_x
+unfolding series_ring
+square_and_x_terms = terms_are (ring Q) square_and_x square_and_x refl tt (lit< tt, lit< tt, (lit< tt, lit< tt, tt))
+
+linear_terms : terms (ring Q) (polynomial (ring Q) linear) ≡ linear
+unfolding series_ring
+linear_terms = terms_are (ring Q) linear linear refl tt (lit< tt, lit< tt, (lit< tt, lit< tt, tt))
+
+double : block_text Q (codes "x" ∷ []) double_root_job.roots double_root_factors 3 ≡ codes "precision 3\n"
+    ++ codes "factor 1 root 0 times 2\n" ++ codes "Y^2: 1\n" ++ codes "Y^1: 0\n" ++ codes "Y^0: 1*x\n"
+    ++ codes "factor 2 root 1 times 1\n" ++ codes "Y^1: 1\n" ++ codes "Y^0: 6\n"
+unfolding series_ring digits
+double = rw (square_and_x_terms, linear_terms) refl
+
+start : block_text Q (codes "x" ∷ []) double_root_job.roots double_root_start 0 ≡ codes "precision 0\n"
+    ++ codes "factor 1 root 0 times 2\n" ++ codes "Y^2: 1\n" ++ codes "Y^1: 0\n" ++ codes "Y^0: 0\n"
+    ++ codes "factor 2 root 1 times 1\n" ++ codes "Y^1: 1\n" ++ codes "Y^0: 6\n"
+unfolding series_ring digits
+start = rw (square_terms, linear_terms) refl
+
+abbrev P : SeriesRing
+P = job_ring quadratic_job
+
+abbrev near_ten : List (Key P.variables × ℕ)
+near_ten = (key P.variables [] 1, 1) ∷ (key P.variables [] 0, 91) ∷ (key P.variables (1 ∷ []) 0, 51)
+    ∷ (key P.variables (2 ∷ []) 0, 77) ∷ []
+
+abbrev near_ninety_one : List (Key P.variables × ℕ)
+near_ninety_one = (key P.variables [] 1, 1) ∷ (key P.variables [] 0, 10) ∷ (key P.variables (1 ∷ []) 0, 51)
+    ∷ (key P.variables (2 ∷ []) 0, 24) ∷ []
+
+near_ten_terms : terms (ring P) (polynomial (ring P) near_ten) ≡ (key P.variables [] 1, 1)
+    ∷ (key P.variables (2 ∷ []) 0, 77) ∷ (key P.variables (1 ∷ []) 0, 51) ∷ (key P.variables [] 0, 91) ∷ []
+unfolding series_ring
+near_ten_terms = terms_are (ring P) near_ten _ refl tt
+    (lit< tt, lit< tt, (lit< tt, lit< tt, (lit< tt, lit< tt, (lit< tt, lit< tt, tt))))
+
+near_ninety_one_terms : terms (ring P) (polynomial (ring P) near_ninety_one) ≡ (key P.variables [] 1, 1)
+    ∷ (key P.variables (2 ∷ []) 0, 24) ∷ (key P.variables (1 ∷ []) 0, 51) ∷ (key P.variables [] 0, 10) ∷ []
+unfolding series_ring
+near_ninety_one_terms = terms_are (ring P) near_ninety_one _ refl tt
+    (lit< tt, lit< tt, (lit< tt, lit< tt, (lit< tt, lit< tt, (lit< tt, lit< tt, tt))))
+
+quadratic_block : block_text P (codes "x" ∷ []) quadratic_job.roots quadratic_factors 2 ≡ codes "precision 2\n"
+    ++ codes "factor 1 root 10 times 1\n" ++ codes "Y^1: 1\n" ++ codes "Y^0: 91 + 51*x + 77*x^2\n"
+    ++ codes "factor 2 root 91 times 1\n" ++ codes "Y^1: 1\n" ++ codes "Y^0: 10 + 51*x + 24*x^2\n"
+unfolding series_ring digits
+quadratic_block = rw (near_ten_terms, near_ninety_one_terms) refl
+
+abbrev R : SeriesRing
+R = series_ring 7
+
+abbrev unordered : List (Key R.variables × ℕ)
+unordered = (key R.variables (0 ∷ 2 ∷ []) 0, 6) ∷ (key R.variables (1 ∷ []) 1, 1) ∷ (key R.variables (1 ∷ []) 0, 3)
+    ∷ (key R.variables (2 ∷ []) 0, 1) ∷ (key R.variables [] 0, 5) ∷ (key R.variables (1 ∷ 1 ∷ []) 0, 4)
+    ∷ (key R.variables (0 ∷ 1 ∷ []) 0, 2) ∷ []
+
+abbrev ordered : List (Key R.variables × ℕ)
+ordered = (key R.variables (1 ∷ []) 1, 1) ∷ (key R.variables (2 ∷ []) 0, 1) ∷ (key R.variables (1 ∷ 1 ∷ []) 0, 4)
+    ∷ (key R.variables (1 ∷ []) 0, 3) ∷ (key R.variables (0 ∷ 2 ∷ []) 0, 6) ∷ (key R.variables (0 ∷ 1 ∷ []) 0, 2)
+    ∷ (key R.variables [] 0, 5) ∷ []
+
+all_terms : terms (ring R) (polynomial (ring R) unordered) ≡ ordered
+unfolding series_ring
+all_terms = terms_are (ring R) unordered ordered refl tt (
+  lit< tt,
+  lit< tt,
+  (
+    lit< tt,
+    lit< tt,
+    (
+      lit< tt,
+      lit< tt,
+      (lit< tt, lit< tt, (lit< tt, lit< tt, (lit< tt, lit< tt, (lit< tt, lit< tt, tt)))),
+    ),
+  ),
+)
+
+the_line : power_line R (codes "x" ∷ codes "z" ∷ []) 2 (two_variables R) 0
+    ≡ codes "Y^0: 5 + 3*x + 2*z + 1*x^2 + 4*x*z + 6*z^2\n"
+unfolding series_ring digits
+the_line = rw all_terms refl
+
+pub returns : goal.returns
+returns c = record { split = the_block; double = double; start = start; quadratic = quadratic_block; line = the_line }

@@ -1,0 +1,141 @@
+-- Jobs: the ring in which one is computed, what is wrong with one, and its factors.
+--     series_ring m      polynomials in Y and eight variables of weight 1 modulo m; below 2 it takes 2
+--     job_ring job      those modulo the job's modulus
+--     Fault      what may be wrong with a job, with the values that are told
+--     order f      the faults' one order, from 1
+--     IsFault job f      this is wrong with the job
+--     IsFirstFault job f      it is, and nothing that comes earlier in the order
+--     IsValidJob job      nothing is wrong with it
+--     leading_series job D      the coefficient of Y ^ formal_degree that the product of the factors is multiplied by: 1
+--     AreFactorsOf job D value fs      monic factors, at the origin the root powers, whose product up to degree D is the value
+--     IsFactors job D fs      the same of the value of the job's tree: the list of factors of Hensel's lemma
+use Rattle.std.specs.Prelude.{◌≡◌, ◌≢◌, ℕ, zero, suc, ◌+◌, ◌-◌, ◌%◌, ◌<◌, ◌≤◌, ◌⊎◌, min, max, true, Some, List, slice_get}
+use Rattle.std.specs.Int.{IsGcd}
+use Rattle.std.proofs.Common.{lit<, arith}
+use Rattle.ps_model.specs.declared.expr.Expr.{Expr}
+use Rattle.ps_model.specs.declared.job.JobData.{JobData}
+use Rattle.ps_model.specs.declared.job.Root.{Root}
+use Rattle.ps_model.specs.Keys.{Powers, ArePositive, y_key}
+use Rattle.ps_model.specs.Notation.{coefficient, constant_term, one, product, truncated}
+use Rattle.ps_model.specs.Bounds.{IsUnit}
+use Rattle.ps_model.specs.SeriesRing.{SeriesRing, Poly}
+use Rattle.ps_model.specs.Factors.{total_times, product_of, root_powers, EachIsFactor}
+use Rattle.ps_model.specs.Tree.{formal_degree, node_count, has_y, divisors}
+use Rattle.ps_model.specs.Value.{IsValue, HasLead}
+
+abbrev pub ones : (n : ℕ) → Powers n
+ones zero = tt
+ones (suc n) = (1, ones n)
+
+pub ones-positive : (n : ℕ) → ArePositive n (ones n)
+ones-positive zero = tt
+ones-positive (suc n) = (lit< tt, ones-positive n)
+
+pub two_at_least : (m : ℕ) → 2 ≤ max 2 m
+two_at_least m = omega arith
+
+unfoldable pub series_ring : ℕ → SeriesRing
+series_ring m = record {
+  variables = 8;
+  weights = ones 8;
+  positive = ones-positive 8;
+  modulus = max 2 m;
+  at_least_two = two_at_least m;
+}
+
+abbrev pub job_ring : JobData → SeriesRing
+job_ring job = series_ring job.modulus
+
+pub data Fault : Type 0 where
+  DividesByY : ℕ → Fault
+  TooManyNodes : ℕ → Fault
+  DegreeTooLarge : ℕ → Fault
+  NotMonic : Fault
+  NotAUnit : ℕ → ℕ → ℕ → Fault
+  DegreeMismatch : ℕ → ℕ → Fault
+  NotApart : ℕ → ℕ → ℕ → ℕ → Fault
+  RootsMismatch : ℕ → ℕ → ℕ → Fault
+
+abbrev pub order : Fault → ℕ
+order (DividesByY division) = 1
+order (TooManyNodes count) = 2
+order (DegreeTooLarge degree) = 3
+order NotMonic = 4
+order (NotAUnit division value gcd) = 5
+order (DegreeMismatch degree total) = 6
+order (NotApart first second difference gcd) = 7
+order (RootsMismatch power input roots) = 8
+
+abbrev pub IsLeast : (ℕ → Type 0) → ℕ → Type 0
+IsLeast P k = P k × ((i : ℕ) → P i → k ≤ i)
+
+-- a count as it is told, at most 2^32 - 1
+abbrev pub told_count : ℕ → ℕ
+told_count n = min n 4294967295
+
+-- d is behind the sign of division k, counted from 1
+abbrev pub IsDivisor : Expr → ℕ → Expr → Type 0
+IsDivisor e k d = (0 < k) × (slice_get (divisors e) (k - 1) ≡ Some d)
+
+-- the division's divisor has Y
+abbrev pub IsByY : Expr → ℕ → Type 0
+IsByY e k = (d : Expr) × IsDivisor e k d × (has_y d ≡ true)
+
+-- the division fails: its divisor has a value at the origin, which is no unit
+abbrev pub Fails : JobData → ℕ → ℕ → Type 0
+Fails job k value =
+    (d : Expr) × IsDivisor job.expr k d × (v : Poly (job_ring job)) × IsValue (job_ring job) 0 d v
+    × (value ≡ constant_term v) × (IsUnit job.modulus value → ⊥)
+
+-- the roots i and j, counted from 1, have a difference that is no unit
+abbrev pub IsPairTooNear : JobData → ℕ → ℕ → ℕ → Type 0
+IsPairTooNear job i j difference =
+    (r : Root) × (s : Root) × (0 < i) × (i < j)
+    × (slice_get job.roots (i - 1) ≡ Some r) × (slice_get job.roots (j - 1) ≡ Some s)
+    × (difference ≡ (r.value + (job.modulus - s.value)) % job.modulus)
+    × (IsUnit job.modulus difference → ⊥)
+
+-- the coefficients of Y ^ power at the origin, of the tree's value and of the product of the root powers
+abbrev pub AreAtOrigin : JobData → ℕ → ℕ → ℕ → Type 0
+AreAtOrigin job power input roots =
+    let S = job_ring job in
+    let expected : Poly S = root_powers job.roots in
+    (v : Poly S) × IsValue S 0 job.expr v
+    × (input ≡ coefficient v (y_key S.variables power)) × (roots ≡ coefficient expected (y_key S.variables power))
+
+abbrev pub DifferAt : JobData → ℕ → Type 0
+DifferAt job power = (input : ℕ) × (roots : ℕ) × AreAtOrigin job power input roots × (input ≢ roots)
+
+abbrev pub IsFault : JobData → Fault → Type 0
+IsFault job (DividesByY division) = IsLeast (IsByY job.expr) division
+IsFault job (TooManyNodes count) = (4096 < node_count job.expr) × (count ≡ told_count (node_count job.expr))
+IsFault job (DegreeTooLarge degree) = (32 < formal_degree job.expr) × (degree ≡ told_count (formal_degree job.expr))
+IsFault job NotMonic = HasLead (job_ring job) job.expr 1 → ⊥
+IsFault job (NotAUnit division value gcd) =
+    Fails job division value × IsLeast (λ k. (c : ℕ) × Fails job k c) division × IsGcd value job.modulus gcd
+IsFault job (DegreeMismatch degree total) =
+    (formal_degree job.expr ≢ total_times job.roots)
+    × (degree ≡ told_count (formal_degree job.expr)) × (total ≡ told_count (total_times job.roots))
+IsFault job (NotApart first second difference gcd) =
+    IsPairTooNear job first second difference × IsGcd difference job.modulus gcd
+    × ((i j d : ℕ) → IsPairTooNear job i j d → (first < i) ⊎ ((first ≡ i) × (second ≤ j)))
+IsFault job (RootsMismatch power input roots) = AreAtOrigin job power input roots × IsLeast (DifferAt job) power
+
+pub record IsFirstFault (job : JobData) (f : Fault) : Type 0 where
+  pub holds : IsFault job f
+  pub first : (g : Fault) → IsFault job g → order f ≤ order g
+
+abbrev pub IsValidJob : JobData → Type 0
+IsValidJob job = (f : Fault) → IsFault job f → ⊥
+
+abbrev pub leading_series : (job : JobData) → ℕ → Poly (job_ring job)
+leading_series job D = one
+
+pub record AreFactorsOf (job : JobData) (D : ℕ) (value : Poly (job_ring job)) (fs : List (Poly (job_ring job))) : Type 0 where
+  pub each : EachIsFactor D job.roots fs
+  pub product_is : truncated D (product (leading_series job D) (product_of fs)) ≡ value
+
+pub record IsFactors (job : JobData) (D : ℕ) (fs : List (Poly (job_ring job))) : Type 0 where
+  pub value : Poly (job_ring job)
+  pub is_value : IsValue (job_ring job) D job.expr value
+  pub are_factors : AreFactorsOf job D value fs

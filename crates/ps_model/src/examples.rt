@@ -1,0 +1,206 @@
+//! Worked examples of the definitions of jobs. Each function's contract is a group of them;
+//! `specs/Examples.antt` has the trees.
+ghost use Rattle.std.specs.Prelude.{◌≡◌, ℕ, List, [], ◌∷◌, ◌++◌, false, true, codes};
+ghost use Rattle.ps_model.specs.Tree.{formal_degree, node_count, has_y, divisors, IsValidTree};
+ghost use Rattle.ps_model.specs.Value.{HasLead, IsValue};
+ghost use Rattle.ps_model.specs.SeriesRing.{Poly};
+ghost use Rattle.ps_model.specs.Notation.{zero, one};
+ghost use Rattle.ps_model.specs.BlockText.{power_line, block_text};
+ghost use Rattle.ps_model.specs.Job.{series_ring, job_ring, IsFactors, IsFirstFault};
+ghost use Rattle.ps_model.specs.Job.{IsValidJob, DividesByY};
+ghost use Rattle.ps_model.specs.Job.{TooManyNodes, DegreeTooLarge, NotMonic, NotAUnit};
+ghost use Rattle.ps_model.specs.Job.{DegreeMismatch, NotApart, RootsMismatch};
+ghost use Rattle.ps_model.specs.Examples.{job, root};
+ghost use Rattle.ps_model.specs.Examples.{x, y, number, divided, raised, quadratic, y_plus_one};
+ghost use Rattle.ps_model.specs.Examples.{tower, halved_cube, y_over_series, double_division};
+ghost use Rattle.ps_model.specs.Examples.{lone_summand, lone_minus, lone_factor, divided_first};
+ghost use Rattle.ps_model.specs.Examples.{two_y_squared, vanishing_cube, halved};
+ghost use Rattle.ps_model.specs.Examples.{one_over_y, one_over_x, one_over_two_plus_x};
+ghost use Rattle.ps_model.specs.Examples.{over_x_and_y, power_zero_of_quotient};
+ghost use Rattle.ps_model.specs.Examples.{fourth_power_plus_x, square_plus_x, minus_one};
+ghost use Rattle.ps_model.specs.Examples.{square_plus_one, square_plus_y, split_job};
+ghost use Rattle.ps_model.specs.Examples.{written, two_x_three_x, geometric, split_factors};
+ghost use Rattle.ps_model.specs.Examples.{double_root_job, double_root_factors};
+ghost use Rattle.ps_model.specs.Examples.{double_root_start, two_variables};
+ghost use Rattle.ps_model.specs.Examples.{quadratic_job, quadratic_factors, split_factors_to_4};
+ghost use Rattle.ps_model.specs.Examples.{cubic_job, cubic_factors, three_roots_job};
+ghost use Rattle.ps_model.specs.Examples.{three_roots_factors, geometric_job, geometric_factors};
+ghost use Rattle.ps_model.specs.Examples.{halved_job, halved_factors};
+
+/// Formal degrees: a divisor leaves the degree, and what cancels still counts.
+pub fn degrees()
+    ensures quadratic { formal_degree quadratic ≡ 2 }
+    ensures power { formal_degree (raised y_plus_one 40) ≡ 40 }
+    ensures divisor { formal_degree y_over_series ≡ 1 }
+    ensures products { formal_degree halved_cube ≡ 3 }
+    ensures tower { formal_degree tower ≡ 4228250625 }
+{}
+
+/// Node counts: of sums, of products with and without divisors, and of powers.
+pub fn nodes()
+    ensures quadratic { node_count quadratic ≡ 14 }
+    ensures sum { node_count y_plus_one ≡ 5 }
+    ensures power_40 { node_count (raised y_plus_one 40) ≡ 863 }
+    ensures power_100 { node_count (raised y_plus_one 100) ≡ 5153 }
+    ensures power_255 { node_count (raised y 255) ≡ 32895 }
+    // 2 of Y, 3 of 1 - x and 2 of the quotient, which has Y's degree.
+    ensures divisor { node_count y_over_series ≡ 7 }
+    ensures products { node_count halved_cube ≡ 17 }
+{}
+
+/// Divisors stand from left to right, an outer one before those within it.
+pub fn divisors_in_order()
+    ensures double { divisors double_division ≡ divided (number 1) x ∷ x ∷ [] }
+    ensures none { divisors quadratic ≡ [] }
+    ensures with_y { has_y double_division ≡ true }
+    ensures without_y { has_y (divided (number 1) x) ≡ false }
+{}
+
+/// Trees at the edge of what an expression has, and beyond.
+pub fn valid_trees()
+    ensures quadratic { IsValidTree 1 quadratic }
+    ensures lone_minus { IsValidTree 1 lone_minus }
+    ensures lone_summand { IsValidTree 1 lone_summand → ⊥ }
+    ensures lone_factor { IsValidTree 1 lone_factor → ⊥ }
+    ensures divided_first { IsValidTree 1 divided_first → ⊥ }
+    ensures exponent { IsValidTree 1 (raised y 255) }
+    ensures large_exponent { IsValidTree 1 (raised y 256) → ⊥ }
+    ensures number { IsValidTree 1 (number 18446744073709551615) }
+    ensures large_number { IsValidTree 1 (number 18446744073709551616) → ⊥ }
+    ensures unnamed { IsValidTree 0 x → ⊥ }
+{}
+
+/// Leading numbers modulo 7, which the form of a tree tells: what cancels leaves 0, a divisor that
+/// is a number counts by its inverse, and one with a variable leaves it unknown.
+pub fn leading_numbers()
+    ensures quadratic { HasLead (series_ring 7) quadratic 1 }
+    ensures two { HasLead (series_ring 7) two_y_squared 2 }
+    ensures not_one { HasLead (series_ring 7) two_y_squared 1 → ⊥ }
+    ensures vanishing { HasLead (series_ring 7) vanishing_cube 0 }
+    ensures vanishes { HasLead (series_ring 7) vanishing_cube 1 → ⊥ }
+    ensures unknown { (l : ℕ) → HasLead (series_ring 7) y_over_series l → ⊥ }
+    ensures halved { HasLead (series_ring 7) halved 1 }
+{}
+
+/// Faults that the form of a tree has, each the first of its job.
+pub fn faults_of_form()
+    ensures by_y { IsFirstFault (job 7 one_over_y (root 0 1 ∷ [])) (DividesByY 1) }
+    ensures nodes { IsFirstFault (job 7 (raised y_plus_one 100) (root 6 100 ∷ []))
+        (TooManyNodes 5153) }
+    // More nodes than the largest count that is told.
+    ensures tower { IsFirstFault (job 7 tower (root 0 1 ∷ [])) (TooManyNodes 4294967295) }
+    ensures degree { IsFirstFault (job 7 (raised y_plus_one 40) (root 6 40 ∷ []))
+        (DegreeTooLarge 40) }
+    ensures not_monic { IsFirstFault (job 7 two_y_squared (root 0 2 ∷ [])) NotMonic }
+{}
+
+/// Divisions by x, which is 0 at the origin: the first of a job; and the second where the first
+/// doesn't fail, since its divisor has no value. A divisor may be 2 at the origin, modulo 6.
+pub fn faults_of_divisions()
+    ensures by_x { IsFirstFault (job 7 one_over_x (root 0 1 ∷ [])) (NotAUnit 1 0 7) }
+    ensures double { IsFirstFault (job 7 double_division (root 0 1 ∷ [])) (NotAUnit 2 0 7) }
+    ensures two { IsFirstFault (job 6 one_over_two_plus_x (root 0 1 ∷ [])) (NotAUnit 1 2 2) }
+{}
+
+/// Faults of the roots: their number, two that differ by no unit, one that stands twice, and
+/// coefficients at the origin that differ, at the lowest power of Y.
+pub fn faults_of_roots()
+    ensures degree { IsFirstFault (job 7 square_plus_x (root 0 3 ∷ [])) (DegreeMismatch 2 3) }
+    ensures near { IsFirstFault (job 6 square_plus_x (root 1 1 ∷ root 4 1 ∷ []))
+        (NotApart 1 2 3 3) }
+    ensures twice { IsFirstFault (job 7 square_plus_x (root 3 1 ∷ root 3 1 ∷ []))
+        (NotApart 1 2 0 7) }
+    ensures minus { IsFirstFault (job 7 minus_one (root 1 1 ∷ root 5 1 ∷ []))
+        (RootsMismatch 0 6 5) }
+    ensures plus { IsFirstFault (job 7 square_plus_one (root 0 2 ∷ [])) (RootsMismatch 0 1 0) }
+    ensures power { IsFirstFault (job 7 square_plus_y (root 0 1 ∷ root 3 1 ∷ []))
+        (RootsMismatch 1 1 4) }
+{}
+
+/// The first of several: the second division is the first by Y, which comes before the first that
+/// fails; a division counts under the power 0 too; and of the pairs of roots 1 and 4, 2 and 3, and
+/// 3 and 4 the first is told.
+pub fn first_of_several()
+    ensures by_y { IsFirstFault (job 7 over_x_and_y (root 0 1 ∷ [])) (DividesByY 2) }
+    ensures power_zero { IsFirstFault (job 7 power_zero_of_quotient (root 0 1 ∷ []))
+        (NotAUnit 1 0 7) }
+    ensures pair { IsFirstFault
+        (job 6 fourth_power_plus_x (root 0 1 ∷ root 1 1 ∷ root 5 1 ∷ root 2 1 ∷ []))
+        (NotApart 1 4 4 2) }
+{}
+
+/// A job without a fault, modulo 15.
+pub fn valid_job()
+    ensures { IsValidJob split_job }
+{}
+
+/// Values up to degree 2: a product that vanishes modulo 6, the quotient 1 / (1 - x), a number as
+/// its residue, and the power 0; and divisions without a value.
+pub fn values()
+    ensures vanishing { IsValue (series_ring 6) 2 two_x_three_x zero }
+    ensures vanishes { (v : Poly (series_ring 6)) → IsValue (series_ring 6) 2 two_x_three_x v →
+        v ≡ zero }
+    ensures geometric { IsValue (series_ring 7) 2 geometric
+        (written (series_ring 7) ((1, [], 0) ∷ (1, 1 ∷ [], 0) ∷ (1, 2 ∷ [], 0) ∷ [])) }
+    ensures residue { IsValue (series_ring 7) 2 (number 8) one }
+    ensures power_zero { IsValue (series_ring 7) 2 (raised (number 0) 0) one }
+    ensures by_x { (v : Poly (series_ring 7)) → IsValue (series_ring 7) 2 (divided x x) v → ⊥ }
+    ensures by_y { (v : Poly (series_ring 7)) → IsValue (series_ring 7) 2 (divided y y) v → ⊥ }
+{}
+
+/// The factors of a job modulo 15, up to degree 1, and no other list; and of one with a double
+/// root, up to degree 3 and 0.
+pub fn factors()
+    ensures split { IsFactors split_job 1 split_factors }
+    ensures only { (fs : List (Poly (job_ring split_job))) → IsFactors split_job 1 fs →
+        fs ≡ split_factors }
+    ensures double { IsFactors double_root_job 3 double_root_factors }
+    ensures start { IsFactors double_root_job 0 double_root_start }
+{}
+
+/// Factors of more jobs: modulo 101 and 15 up to higher degrees, with a double root that x splits,
+/// and with two variables and three roots.
+pub fn more_factors()
+    ensures quadratic { IsFactors quadratic_job 2 quadratic_factors }
+    ensures split { IsFactors split_job 4 split_factors_to_4 }
+    ensures cubic { IsFactors cubic_job 1 cubic_factors }
+    ensures three_roots { IsFactors three_roots_job 1 three_roots_factors }
+{}
+
+/// Factors of jobs with a division: by a series, and by a number.
+pub fn factors_with_divisions()
+    ensures series { IsFactors geometric_job 2 geometric_factors }
+    ensures number { IsFactors halved_job 1 halved_factors }
+{}
+
+/// The blocks of those factors; and a line with two variables, whose terms stand by degree, then by
+/// falling powers.
+pub fn blocks()
+    ensures split { block_text (job_ring split_job) (codes "x" ∷ []) split_job.roots
+        split_factors 1
+        ≡ codes "precision 1\n"
+        ++ codes "factor 1 root 0 times 1\n" ++ codes "Y^1: 1\n" ++ codes "Y^0: 14*x\n"
+        ++ codes "factor 2 root 1 times 1\n" ++ codes "Y^1: 1\n" ++ codes "Y^0: 14 + 1*x\n" }
+    ensures double { block_text (job_ring double_root_job) (codes "x" ∷ []) double_root_job.roots
+        double_root_factors 3
+        ≡ codes "precision 3\n"
+        ++ codes "factor 1 root 0 times 2\n" ++ codes "Y^2: 1\n" ++ codes "Y^1: 0\n"
+        ++ codes "Y^0: 1*x\n"
+        ++ codes "factor 2 root 1 times 1\n" ++ codes "Y^1: 1\n" ++ codes "Y^0: 6\n" }
+    ensures start { block_text (job_ring double_root_job) (codes "x" ∷ []) double_root_job.roots
+        double_root_start 0
+        ≡ codes "precision 0\n"
+        ++ codes "factor 1 root 0 times 2\n" ++ codes "Y^2: 1\n" ++ codes "Y^1: 0\n"
+        ++ codes "Y^0: 0\n"
+        ++ codes "factor 2 root 1 times 1\n" ++ codes "Y^1: 1\n" ++ codes "Y^0: 6\n" }
+    ensures quadratic { block_text (job_ring quadratic_job) (codes "x" ∷ []) quadratic_job.roots
+        quadratic_factors 2
+        ≡ codes "precision 2\n"
+        ++ codes "factor 1 root 10 times 1\n" ++ codes "Y^1: 1\n"
+        ++ codes "Y^0: 91 + 51*x + 77*x^2\n"
+        ++ codes "factor 2 root 91 times 1\n" ++ codes "Y^1: 1\n"
+        ++ codes "Y^0: 10 + 51*x + 24*x^2\n" }
+    ensures line { power_line (series_ring 7) (codes "x" ∷ codes "z" ∷ []) 2
+        (two_variables (series_ring 7)) 0
+        ≡ codes "Y^0: 5 + 3*x + 2*z + 1*x^2 + 4*x*z + 6*z^2\n" }
+{}

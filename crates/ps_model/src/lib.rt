@@ -1,0 +1,13 @@
+//! Jobs as plain data, polynomials in Y and up to eight weighted variables modulo m, and their laws.
+#![tactic(auto)]
+
+pub mod examples;
+mod expr;
+mod job;
+pub mod laws;
+mod out_of_memory;
+pub mod plain;
+
+pub use expr::{Expr, Factor, Summand};
+pub use job::{JobData, Root};
+pub use out_of_memory::OutOfMemory;
