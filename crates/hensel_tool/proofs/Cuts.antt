@@ -1,5 +1,6 @@
 -- Cuts and prefixes of texts.
-use Rattle.std.proofs.Common.{◌≡◌, ℕ, zero, suc, ◌+◌, ◌<◌, Bool, true, false, cond, List, [], ◌∷◌, ◌++◌, length, get_or}
+use Rattle.std.proofs.Common.{◌≡◌, ℕ, zero, suc, ◌+◌, ◌<◌, Bool, true, false, cond, List, [], ◌∷◌, ◌++◌, length}
+use Rattle.std.proofs.Common.{get_or}
 use Rattle.std.proofs.Common.{take, drop, Option, Some, None, refl, sym, ◌∙◌, ap, arith, eqb}
 use Rattle.std.proofs.lemmas.Bool.{eqb-true}
 use Rattle.std.proofs.Common.{eq-eqb, ◌&&◌}
@@ -36,7 +37,8 @@ cut_nowhere b (x ∷ xs) none =
     not_eqb x b h = grind (arith)
 
 -- a test and the rest, where both are wanted
-unless_both : {A : Type 0} (v w : Bool) (x : Option A) → (v && w) ≡ false → (w ≡ false → x ≡ None) → cond v x None ≡ None
+unless_both : {A : Type 0} (v w : Bool) (x : Option A) → (v && w) ≡ false → (w ≡ false → x ≡ None) →
+    cond v x None ≡ None
 unless_both true w x h rest = rest h
 unless_both false w x h rest = refl
 

@@ -1,30 +1,11 @@
 -- Reading an input to its end, line by line.
-use Rattle.std.proofs.Common.{◌≡◌, ◌≢◌, ℕ, ◌+◌, ◌<◌, ◌≤◌, List, [], ◌∷◌, ◌++◌, length, drop, refl, sym, ◌∙◌, ap}
-use Rattle.std.proofs.Common.{arith, Option, Some, None, ◌⊎◌, inl, inr, append_assoc, true}
+use Rattle.std.proofs.Common.{◌≡◌, ℕ, ◌+◌, ◌≤◌, List, [], ◌++◌, length, refl, sym, ◌∙◌, ap}
+use Rattle.std.proofs.Common.{arith, Option, Some, None, append_assoc}
 use Rattle.std.proofs.lemmas.Option.{none-some, same_Some}
-use Rattle.std.proofs.lemmas.List.{append-nil, length-drop, length-append}
+use Rattle.std.proofs.lemmas.List.{append-nil, length-append}
 use Rattle.ports.specs.Bytes.{AllTaken, TakesBytes}
-use Rattle.ports.specs.Reading.{Reading, PullsMore, TakesLine, rest_of}
+use Rattle.ports.specs.Reading.{Reading, PullsMore}
 use Rattle.hensel_tool.specs.Calls.{IsLeft}
-
--- each line takes a byte at least
-pub onward : (old new : Reading) → TakesLine old new → new.place ≤ length new.pulled → old.place < new.place
-onward old new t within = by_end t.is_line.1
-  where
-    some : (line : List ℕ) → line ≢ [] → 0 < length line
-    some [] h = absurd (h refl)
-    some (b ∷ bs) h = omega arith
-
-    by_end : ((drop old.place new.pulled ≡ t.line ++ 10 ∷ rest_of new) ⊎ ((new.ended ≡ true) × (t.line ≢ [])
-        × (drop old.place new.pulled ≡ t.line) × (rest_of new ≡ []))) → old.place < new.place
-    by_end (inl h) =
-        let counted : length (drop old.place new.pulled) ≡ length t.line + (1 + length (rest_of new)) =
-        ap length h ∙ length-append t.line (10 ∷ rest_of new) ∙ omega arith in
-        omega (arith, counted, length-drop old.place new.pulled, length-drop new.place new.pulled)
-    by_end (inr h) =
-        let counted : length (drop old.place new.pulled) ≡ length t.line = ap length h.2 in
-        let empty : length (rest_of new) ≡ 0 = ap length h.3 in
-        omega (arith, counted, empty, some t.line h.1, length-drop old.place new.pulled, length-drop new.place new.pulled)
 
 -- nothing pulled yet
 pub pulls_nothing : (r : Reading) (left : Option (List ℕ)) → PullsMore r r left left
@@ -35,7 +16,8 @@ pulls_nothing r left = ([], sym (append-nil r.pulled), takes left)
     takes (Some bytes) = (bytes, refl, refl)
 
 -- first some bytes, then more
-pub pulls_then : (a b c : Reading) (left left' left'' : Option (List ℕ)) → PullsMore a b left left' → PullsMore b c left' left''
+pub pulls_then : (a b c : Reading) (left left' left'' : Option (List ℕ)) → PullsMore a b left left' →
+    PullsMore b c left' left''
     → PullsMore a c left left''
 pulls_then a b c left left' left'' p q =
     (p.0 ++ q.0, q.1 ∙ ap (λ (l : List ℕ). l ++ q.0) p.1 ∙ append_assoc a.pulled p.0 q.0, takes left left' p.2 q.2)
@@ -50,7 +32,8 @@ pulls_then a b c left left' left'' p q =
         (k.0, k.1, h.2 ∙ ap (λ (l : List ℕ). p.0 ++ l) (sym same ∙ k.2) ∙ sym (append_assoc p.0 q.0 k.0))
 
 -- where all was taken, the bytes pulled are the input
-pub whole_input : (a b : Reading) (left left' : Option (List ℕ)) → a.pulled ≡ [] → PullsMore a b left left' → AllTaken left'
+pub whole_input : (a b : Reading) (left left' : Option (List ℕ)) → a.pulled ≡ [] → PullsMore a b left left' →
+    AllTaken left'
     → IsLeft left b.pulled
 whole_input a b None left' fresh p all = tt
 whole_input a b (Some bytes) None fresh p all = absurd (none-some p.2.0 p.2.1)

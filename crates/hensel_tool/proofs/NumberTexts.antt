@@ -1,5 +1,6 @@
 -- Numbers and names in texts.
-use Rattle.std.proofs.Common.{◌≡◌, ℕ, suc, ◌+◌, ◌*◌, ◌-◌, ◌<◌, ◌≤◌, Bool, true, false, cond, ◌&&◌, not, List, [], ◌∷◌, ◌++◌}
+use Rattle.std.proofs.Common.{◌≡◌, ℕ, suc, ◌+◌, ◌*◌, ◌-◌, ◌<◌, ◌≤◌, Bool, true, false, cond, ◌&&◌, not, List, [], ◌∷◌}
+use Rattle.std.proofs.Common.{◌++◌}
 use Rattle.std.proofs.Common.{length, get_or, take, drop, Option, Some, None, refl, sym, ◌∙◌, ap, arith, leb}
 use Rattle.std.proofs.lemmas.List.{take-append-drop}
 use Rattle.std.proofs.lemmas.List.Sums.{fold-append}
@@ -18,7 +19,8 @@ fold_grows n (d ∷ ds) = omega (arith, fold_grows (10 * n + (d - 48)) ds)
 
 pub number_of_take : (i : ℕ) (ds : List ℕ) → number_of (take i ds) ≤ number_of ds
 number_of_take i ds =
-    let split : number_of (take i ds ++ drop i ds) ≡ fold (λ n d. 10 * n + (d - 48)) (number_of (take i ds)) (drop i ds) =
+    let split : number_of (take i ds ++ drop i ds) ≡ fold (λ n d. 10 * n + (d - 48)) (number_of (take i ds))
+    (drop i ds) =
     fold-append (λ n d. 10 * n + (d - 48)) 0 (take i ds) (drop i ds) in
     let whole : number_of ds ≡ number_of (take i ds ++ drop i ds) = ap number_of (sym (take-append-drop i ds)) in
     omega (arith, split, whole, fold_grows (number_of (take i ds)) (drop i ds))
@@ -40,7 +42,8 @@ pub number_none_large : (limit : ℕ) (text : List ℕ) (i : ℕ) → limit < nu
     → number_at_most limit text ≡ None
 unfolding number_at_most
 number_none_large limit text i large =
-    let above : leb (number_of text) limit ≡ false = leb_false (number_of text) limit (omega (arith, number_of_take i text)) in
+    let above : leb (number_of text) limit ≡ false =
+    leb_false (number_of text) limit (omega (arith, number_of_take i text)) in
     rw above (none_left (is_nothing text) (list_all is_ascii_digit text))
   where
     leb_false : (a b : ℕ) → b < a → leb a b ≡ false

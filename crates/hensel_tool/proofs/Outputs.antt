@@ -42,8 +42,12 @@ some_output input = by_reading (plain_of input) refl
     by_reading None read =
         (not_built, 1, refusal_output input (λ s is. none-some s (sym read ∙ plain_of_same input s is)))
     by_reading (Some s) read =
-        let plain = plain_of_is input s read in
-        (plain_text s, 0, answer_output input s (plain_text s) plain (plain_block s (plain_text s) plain.power_is.1 refl))
+        let plain = plain_of_is input s read in (
+          plain_text s,
+          0,
+          answer_output input s (plain_text s) plain
+              (plain_block s (plain_text s) plain.power_is.1 refl),
+        )
 
 -- the words and the input have one status
 pub status_once : (words : List (List ℕ)) (input text text' : List ℕ) (status status' : ℕ)
@@ -59,7 +63,8 @@ status_once words input text text' status status' (inr (inr a)) (inr (inl b)) = 
 status_once words input text text' status status' (inr (inr a)) (inr (inr b)) = a.status_is ∙ sym b.status_is
 
 -- the same text and status for refused words, whatever the input
-pub status_refused : (words : List (List ℕ)) (input input' text text' : List ℕ) (status status' : ℕ) → words ≢ factor_words
+pub status_refused : (words : List (List ℕ)) (input input' text text' : List ℕ) (status status' : ℕ) →
+    words ≢ factor_words
     → IsOutput words input text status → IsOutput words input' text' status' → status ≡ status'
 status_refused words input input' text text' status status' other (inl a) (inl b) = a.status_is ∙ sym b.status_is
 status_refused words input input' text text' status status' other (inl a) (inr (inl b)) = absurd (other b.taken)
@@ -91,7 +96,8 @@ outputs_done words left w w' input text status r is_left output done low =
     }
 
 -- a text of which a part was written
-pub outputs_part : (words : List (List ℕ)) (left w w' : Option (List ℕ)) (input text : List ℕ) (status r : ℕ) → status < 3
+pub outputs_part : (words : List (List ℕ)) (left w w' : Option (List ℕ)) (input text : List ℕ) (status r : ℕ) →
+    status < 3
     → IsLeft left input → IsOutput words input text status → ((r ≡ 4 → ⊥) → (r ≡ status) × WritesAll w w' text)
     → (r ≡ 4 → WritesPart w w' text) → (r ≡ 4) ⊎ (r ≡ 5) → OutputsPart words left w w'
 outputs_part words left w w' input text status r low is_left output done failed (inl four) = record {
@@ -106,7 +112,8 @@ outputs_part words left w w' input text status r low is_left output done failed 
     absurd (let same = (done (λ four. absurd (omega arith))).0 in omega arith)
 
 -- an output of which nothing was written
-pub outputs_nothing : (left w : Option (List ℕ)) (input : List ℕ) → IsLeft left input → OutputsPart factor_words left w w
+pub outputs_nothing : (left w : Option (List ℕ)) (input : List ℕ) → IsLeft left input →
+    OutputsPart factor_words left w w
 outputs_nothing left w input is_left =
     let some = some_output input in
     record {
@@ -127,7 +134,14 @@ some_input (Some bytes) = (bytes, refl)
 pub told_outputs : (words : List (List ℕ)) (left w w' : Option (List ℕ)) (input : List ℕ) (r : ℕ) → IsLeft left input
     → Outputs words (Some input) w w' r → Outputs words left w w' r
 told_outputs words left w w' input r is_left o =
-    record { input = o.input; is_left = subst (IsLeft left) o.is_left is_left; text = o.text; output = o.output; writes = o.writes }
+    record {
+      input = o.input;
+      is_left = subst (IsLeft left) o.is_left is_left;
+      text = o.text;
+      output =
+          o.output;
+      writes = o.writes;
+    }
 
 pub told_part : (words : List (List ℕ)) (left w w' : Option (List ℕ)) (input : List ℕ) → IsLeft left input
     → OutputsPart words (Some input) w w' → OutputsPart words left w w'
@@ -147,7 +161,8 @@ status_is words None w w' input text status r other output o =
     status_refused words o.input input o.text text r status other o.output output
 status_is words (Some bytes) w w' input text status r is output o =
     let same : o.input ≡ input = sym o.is_left ∙ is in
-    status_once words input o.text text r status (subst (λ (i : List ℕ). IsOutput words i o.text r) same o.output) output
+    status_once words input o.text text r status (subst (λ (i : List ℕ). IsOutput words i o.text r) same o.output)
+    output
 
 -- without a fault the status is the output's, or that of memory
 pub complete_of : (r status : ℕ) → ((r ≡ 4 → ⊥) → (r ≡ 5 → ⊥) → r < 3) → (r ≡ 4 → ⊥) → (r < 3 → r ≡ status)

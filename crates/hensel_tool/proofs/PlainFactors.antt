@@ -21,8 +21,10 @@ use Rattle.hensel_tool.proofs.PlainBlock.{factor_lines, regroup}
 
 -- the value of the tree is the sum of the power's and the variable's
 tree_value : (S : SeriesRing) (D e : ℕ) (p : Poly S) → p ≡ sum (ring S)
-    (truncated (ring S) (degree S) D (power (ring S) (truncated (ring S) (degree S) D (monomial (ring S) 1 (y_key S.variables 1))) e))
-    (sum (ring S) (truncated (ring S) (degree S) D (monomial (ring S) 1 (variable_key S.variables 0))) (nought (ring S)))
+    (truncated (ring S) (degree S) D
+    (power (ring S) (truncated (ring S) (degree S) D (monomial (ring S) 1 (y_key S.variables 1))) e))
+    (sum (ring S) (truncated (ring S) (degree S) D (monomial (ring S) 1 (variable_key S.variables 0)))
+    (nought (ring S)))
     → IsValue S D (plain_tree e) p
 unfolding hidden-the_row-Summand-0 shape-the_row-Summand-0 hidden-the_row-Expr-2 hidden
 tree_value S D e p is = (_, _, (_, refl, refl), (_, _, refl, refl, refl), is)

@@ -1,6 +1,7 @@
 -- Reading finds exactly the scripts of the plain form.
 use Rattle.std.proofs.Common.{◌≡◌, ℕ, ◌-◌, ◌^◌, ◌<◌, ◌≤◌, Bool, true, false, cond, ◌&&◌, not, List, [], ◌∷◌, ◌++◌}
-use Rattle.std.proofs.Common.{length, Option, Some, None, refl, sym, ◌∙◌, ap, arith, append_assoc, eqb, leb, subst, lit<}
+use Rattle.std.proofs.Common.{length, Option, Some, None, refl, sym, ◌∙◌, ap, arith, append_assoc, eqb, leb, subst}
+use Rattle.std.proofs.Common.{lit<}
 use Rattle.std.proofs.lemmas.Option.{none-some, cond_some}
 use Rattle.std.proofs.lemmas.Bool.{eqb-true, eq-eqb, leb-true, le-leb}
 use Rattle.std.proofs.lemmas.Bool.Decides.{nat_tests}
@@ -10,7 +11,8 @@ use Rattle.std.specs.List.{list_all}
 use Rattle.std.specs.Char.{is_ascii_digit}
 use Rattle.hensel_tool.specs.Numbers.{IsNumber, number_of, is_name, is_name_byte}
 use Rattle.hensel_tool.specs.Plain.{Plain, IsPlain, joined}
-use Rattle.hensel_tool.specs.PlainReading.{◌>>=◌, cut_at, strip, is_nothing, number_at_most, FiveLines, lines_in, plain_in}
+use Rattle.hensel_tool.specs.PlainReading.{◌>>=◌, cut_at, strip, is_nothing, number_at_most, FiveLines, lines_in}
+use Rattle.hensel_tool.specs.PlainReading.{plain_in}
 use Rattle.hensel_tool.specs.PlainReading.{modulus_in, name_in, power_in, times_in, precision_in, plain_of}
 use Rattle.std.proofs.lemmas.List.{append-nil}
 use Rattle.hensel_tool.proofs.NumberTexts.{number_some}
@@ -107,7 +109,8 @@ name_is line name h =
     (strip_is (codes "vars ") line a.0 a.1 ∙ ap (λ (l : List ℕ). codes "vars " ++ l) b.1, ap is_name (sym b.1) ∙ b.0)
 
 power_is : (name line : List ℕ) (n : ℕ) → power_in name line ≡ Some n
-    → (digits : List ℕ) × (line ≡ codes "poly Y^" ++ digits ++ codes " + " ++ name) × IsNumber digits n × (1 ≤ n) × (n ≤ 32)
+    → (digits : List ℕ) × (line ≡ codes "poly Y^" ++ digits ++ codes " + " ++ name) × IsNumber digits n × (1 ≤ n) ×
+    (n ≤ 32)
 unfolding power_in
 power_is name line n h =
     let a = bind_some (strip (codes "poly Y^") line) _ n h in
@@ -169,7 +172,8 @@ plain_of_is input s h =
       power = power.0;
       times = times.0;
       precision = precision.0;
-      text = lines_are input p lines.1 ∙ (λ i. joined (modulus.1 i ∷ name.0 i ∷ power.1 i ∷ times.1 i ∷ precision.1 i ∷ []));
+      text = lines_are input p lines.1 ∙
+          (λ i. joined (modulus.1 i ∷ name.0 i ∷ power.1 i ∷ times.1 i ∷ precision.1 i ∷ []));
       short = leb-true (length input) 65536 short.0;
       modulus_is = (modulus.2, modulus.3, modulus.4);
       name_is = name.1;
@@ -210,7 +214,8 @@ name_bytes name h = (both _ (list_all is_name_byte name) h).1
 
 cut_line : (line : List ℕ) (lines : List (List ℕ)) → IsFree 10 line
     → cut_at 10 (joined (line ∷ lines)) ≡ Some (line, joined lines)
-cut_line line lines free = ap (cut_at 10) (append_assoc line (10 ∷ []) (joined lines)) ∙ cut_same 10 line (joined lines) free
+cut_line line lines free = ap (cut_at 10) (append_assoc line (10 ∷ []) (joined lines)) ∙
+    cut_same 10 line (joined lines) free
 
 lines_same : (a b c d e : List ℕ) → IsFree 10 a → IsFree 10 b → IsFree 10 c → IsFree 10 d → IsFree 10 e
     → lines_in (joined (a ∷ b ∷ c ∷ d ∷ e ∷ []))
@@ -225,7 +230,8 @@ lines_same a b c d e fa fb fc fd fe =
       cut_line e [] fe,
     ) refl
 
-modulus_same : (digits : List ℕ) (n : ℕ) → IsNumber digits n → 2 ≤ n → n < 2 ^ 63 → modulus_in (codes "mod " ++ digits) ≡ Some n
+modulus_same : (digits : List ℕ) (n : ℕ) → IsNumber digits n → 2 ≤ n → n < 2 ^ 63 →
+    modulus_in (codes "mod " ++ digits) ≡ Some n
 unfolding modulus_in
 modulus_same digits n is two small =
     rw (number_same (2 ^ 63 - 1) digits n is (omega arith), le-leb 2 n two) refl
@@ -257,7 +263,8 @@ power_same name digits n is one small =
 number_behind_same : (word digits : List ℕ) (limit n : ℕ) → IsNumber digits n → n ≤ limit
     → (strip word (word ++ digits) >>= number_at_most limit) ≡ Some n
 number_behind_same word digits limit n is small =
-    ap (λ (o : Option (List ℕ)). o >>= number_at_most limit) (strip_same word digits) ∙ number_same limit digits n is small
+    ap (λ (o : Option (List ℕ)). o >>= number_at_most limit) (strip_same word digits) ∙
+    number_same limit digits n is small
 
 -- a script of the plain form is read
 pub plain_of_same : (input : List ℕ) (s : Plain) → IsPlain input s → plain_of input ≡ Some s
@@ -270,20 +277,34 @@ plain_of_same input s is =
       fourth = codes "roots 0:" ++ is.times;
       fifth = codes "show " ++ is.precision;
     }) = ap lines_in is.text ∙ lines_same _ _ _ _ _
-    (IsFree-append 10 (codes "mod ") is.modulus (free_test 10 (codes "mod ") refl) (digits_free 10 _ (lit< tt) is.modulus_is.0.digits))
+    (IsFree-append 10 (codes "mod ") is.modulus (free_test 10 (codes "mod ") refl)
+    (digits_free 10 _ (lit< tt) is.modulus_is.0.digits))
     (IsFree-append 10 (codes "vars ") s.name (free_test 10 (codes "vars ") refl) names)
     (IsFree-append 10 (codes "poly Y^" ++ is.power ++ codes " + ") s.name
     (IsFree-append 10 (codes "poly Y^" ++ is.power) (codes " + ")
-    (IsFree-append 10 (codes "poly Y^") is.power (free_test 10 (codes "poly Y^") refl) (digits_free 10 _ (lit< tt) is.power_is.0.digits))
+    (IsFree-append 10 (codes "poly Y^") is.power (free_test 10 (codes "poly Y^") refl)
+    (digits_free 10 _ (lit< tt) is.power_is.0.digits))
     (free_test 10 (codes " + ") refl)) names)
-    (IsFree-append 10 (codes "roots 0:") is.times (free_test 10 (codes "roots 0:") refl) (digits_free 10 _ (lit< tt) is.times_is.digits))
-    (IsFree-append 10 (codes "show ") is.precision (free_test 10 (codes "show ") refl) (digits_free 10 _ (lit< tt) is.precision_is.0.digits)) in
+    (IsFree-append 10 (codes "roots 0:") is.times (free_test 10 (codes "roots 0:") refl)
+    (digits_free 10 _ (lit< tt) is.times_is.digits))
+    (IsFree-append 10 (codes "show ") is.precision (free_test 10 (codes "show ") refl)
+    (digits_free 10 _ (lit< tt) is.precision_is.0.digits)) in
     let modulus = modulus_same is.modulus s.modulus is.modulus_is.0 is.modulus_is.1 is.modulus_is.2 in
     let name = name_same s.name is.name_is in
     let power = power_same s.name is.power s.power is.power_is.0 is.power_is.1 is.power_is.2 in
     let times = number_behind_same (codes "roots 0:") is.times 32 s.power is.times_is is.power_is.2 in
-    let precision = number_behind_same (codes "show ") is.precision 4095 s.precision is.precision_is.0 is.precision_is.1 in
-    rw (le-leb (length input) 65536 is.short, lines, modulus, name, power, times, precision, eq-eqb s.power s.power refl) refl
+    let precision = number_behind_same (codes "show ") is.precision 4095 s.precision is.precision_is.0
+    is.precision_is.1 in
+    rw (
+      le-leb (length input) 65536 is.short,
+      lines,
+      modulus,
+      name,
+      power,
+      times,
+      precision,
+      eq-eqb s.power s.power refl,
+    ) refl
   where
     names : IsFree 10 s.name
     names = name_free 10 s.name (lit< tt) (name_bytes s.name is.name_is)

@@ -25,7 +25,7 @@ use Rattle.ps_model.proofs.Shifts.{linear-zero, power-y}
 use Rattle.ps_model.proofs.Monic.{monic-y, monic-truncated}
 use Rattle.ps_model.proofs.Factors.{truncated-again, truncated-lower}
 use Rattle.ps_model.proofs.Maps.{entries-from_entries}
-use Rattle.ps_model.proofs.PlainScaled.{AreResidues, is_collected}
+use Rattle.ps_model.proofs.Collected.{AreResidues, is_collected}
 
 module _ (R : Ring) where
   -- the entries of a formal sum in order

@@ -1,8 +1,12 @@
 -- What a run of the program has done with its source and its sink.
---     IsLeft left input      the input is what the source has left, where it tells that; else it may be any
---     IsKnown words left input      the input is what the source has left, and told; for refused words it doesn't matter
---     WritesBeginning written written' text      a beginning of the text was added to what was written, where that is told
---     Outputs words left written written' status      the text and the status are those of the output, and the text was written
+--     IsLeft left input      the input is what the source has left, where it tells that; else it
+--         may be any
+--     IsKnown words left input      the input is what the source has left, and told; for refused
+--         words it doesn't matter
+--     WritesBeginning written written' text      a beginning of the text was added to what was
+--         written, where that is told
+--     Outputs words left written written' status      the text and the status are those of the
+--         output, and the text was written
 --     OutputsPart words left written written'      a beginning of the output's text was written
 use Rattle.std.specs.Prelude.{◌≡◌, ◌≢◌, ℕ, List, ◌++◌, take, Option, Some, None}
 use Rattle.ports.specs.Bytes.{WritesAll}

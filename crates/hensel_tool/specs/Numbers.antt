@@ -1,7 +1,9 @@
 -- Numbers and names as they are written.
 --     number_of digits      the number that decimal digits stand for; 0 of none
---     IsNumber text n      the text is one or more digits, with leading zeros or without, and stands for n
---     is_name text      a letter, then letters, digits or `_`, at most 16 bytes in all, and not `Y`; false of no byte
+--     IsNumber text n      the text is one or more digits, with leading zeros or without, and
+--         stands for n
+--     is_name text      a letter, then letters, digits or `_`, at most 16 bytes in all, and not
+--         `Y`; false of no byte
 use Rattle.std.specs.Prelude.{◌≡◌, ◌≢◌, ℕ, ◌+◌, ◌-◌, ◌*◌, ◌==◌, ◌||◌, ◌&&◌, nat_lt, nat_le, not, Bool, true}
 use Rattle.std.specs.Prelude.{List, [], length, fold, slice_index}
 use Rattle.std.specs.List.{list_all}

@@ -1,10 +1,12 @@
 -- What the program writes for its words and its input, and the status that it ends with.
 --     factor_words      the one list of words that is taken: `factor`
---     usage_line, not_built      the line for refused words, and that for a script that isn't of a form that is built
+--     usage_line, not_built      the line for refused words, and that for a script that isn't of a
+--         form that is built
 --     IsUsage words text status      the words are refused: the usage line and 2
 --     IsAnswer words input text status      the script is of the plain form: its block and 0
 --     IsRefusal words input text status      it isn't: that line and 1
---     IsOutput words input text status      one of the three; the input counts only where the words are taken
+--     IsOutput words input text status      one of the three; the input counts only where the words
+--         are taken
 use Rattle.std.specs.Prelude.{◌≡◌, ◌≢◌, ℕ, ◌⊎◌, List, [], ◌∷◌, codes}
 use Rattle.hensel_tool.specs.Plain.{Plain, IsPlain}
 use Rattle.hensel_tool.specs.Block.{IsBlock}

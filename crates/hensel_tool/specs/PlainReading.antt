@@ -89,7 +89,8 @@ plain_in lines = do
   power ← power_in name lines.third
   times ← times_in lines.fourth
   precision ← precision_in lines.fifth
-  if times == power then Some (record { modulus = modulus; name = name; power = power; precision = precision }) else None
+  if times == power then Some (record { modulus = modulus; name = name; power = power; precision = precision })
+      else None
 
 unfoldable pub plain_of : List ℕ → Option Plain
 plain_of input = if nat_le (length input) 65536 then lines_in input >>= plain_in else None

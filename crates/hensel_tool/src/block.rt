@@ -8,7 +8,8 @@ use crate::plain::PlainScript;
 use itoa::Buffer;
 use std::alloc::{AllocError, Global};
 
-/// The block of the script's job at its precision: the one factor is `Y^E + NAME`, up to that degree.
+/// The block of the script's job at its precision. The one factor is `Y^E + NAME`, up to that
+/// degree.
 pub fn block(alloc: Global, script: &PlainScript<'_>) -> Result<Vec<u8>, AllocError>
     requires { 1 ≤ script.now.power }
     ensures { IfOk result (λ text. IsBlock (plain_view script.now) text.items) }
@@ -30,7 +31,8 @@ pub fn block(alloc: Global, script: &PlainScript<'_>) -> Result<Vec<u8>, AllocEr
 
 /// The coefficient of `Y^0`.
 fn push_last(text: &mut Vec<u8>, script: &PlainScript<'_>) -> Result<(), AllocError>
-    ensures { OnOk result (text.new.items ≡ text.old.items ++ last_coefficient script.now.precision script.now.name.now) }
+    ensures { OnOk result (text.new.items ≡ text.old.items ++
+        last_coefficient script.now.precision script.now.name.now) }
 {
     if script.precision == 0 {
         text.extend_from_slice(b"0")

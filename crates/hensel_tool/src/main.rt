@@ -1,4 +1,5 @@
-//! `hensel_tool`: factors a monic polynomial in Y over power series modulo a number, by its roots at the origin.
+//! `hensel_tool`: factors a monic polynomial in Y over power series modulo a number, by its roots
+//! at the origin.
 #![tactic(auto)]
 
 // the words of the command line

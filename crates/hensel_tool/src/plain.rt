@@ -1,7 +1,9 @@
 //! Scripts of the plain form.
 ghost use Rattle.std.specs.Prelude.{◌≡◌, IfSome, IfNone};
 ghost use Rattle.hensel_tool.specs.Plain.{Plain, IsPlain};
-ghost use Rattle.hensel_tool.specs.PlainReading.{Gives, lines_in, modulus_in, name_in, power_in, times_in, precision_in, plain_in, plain_of};
+ghost use Rattle.hensel_tool.specs.PlainReading.{Gives, lines_in, modulus_in, name_in, power_in};
+ghost use Rattle.hensel_tool.specs.PlainReading.{times_in};
+ghost use Rattle.hensel_tool.specs.PlainReading.{precision_in, plain_in, plain_of};
 ghost use Rattle.hensel_tool.specs.PlainView.{plain_view, lines_view};
 
 use crate::reading::{cut, is_name, number, strip};
@@ -9,7 +11,8 @@ use crate::reading::{cut, is_name, number, strip};
 /// The greatest input of the plain form, in bytes.
 const MOST_BYTES: usize = 65536;
 
-/// What a script of the plain form says: `mod N`, `vars NAME`, `poly Y^E + NAME`, `roots 0:E`, `show D`.
+/// What a script of the plain form says: `mod N`, `vars NAME`, `poly Y^E + NAME`, `roots 0:E`,
+/// `show D`.
 #[derive(Clone, Copy)]
 pub struct PlainScript<'a> {
     pub modulus: u64,

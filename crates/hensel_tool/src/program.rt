@@ -1,5 +1,6 @@
 //! The program's work, from bytes to bytes.
-ghost use Rattle.std.specs.Prelude.{◌≡◌, ◌≢◌, ℕ, ◌<◌, ◌≤◌, ◌⊎◌, [], List, map, string_bytes, length, false, Some};
+ghost use Rattle.std.specs.Prelude.{◌≡◌, ◌≢◌, ℕ, ◌<◌, ◌≤◌, ◌⊎◌, [], List, map, string_bytes};
+ghost use Rattle.std.specs.Prelude.{length, false, Some};
 ghost use Rattle.ports.specs.Bytes.{AllTaken, WritesAll, WritesPart};
 ghost use Rattle.ports.specs.Faults.{Rose};
 ghost use Rattle.ports.specs.Reading.{PullsMore};
@@ -30,9 +31,9 @@ const OUT_OF_MEMORY: u8 = 5;
 
 /// Does what the words say: reads the source, writes to the sink, and answers the status.
 ///
-/// 0: the text is written and the source is read to its end. 1: the script is refused, and the last line says why.
-/// 2: the words are refused, and the usage line is written. 3: the source failed. 4: the sink failed.
-/// 5: out of memory. It starts no thread and never waits.
+/// 0: the text is written and the source is read to its end. 1: the script is refused, and the last
+/// line says why. 2: the words are refused, and the usage line is written. 3: the source failed. 4:
+/// the sink failed. 5: out of memory. It starts no thread and never waits.
 pub fn run<S: Source, K: Sink>(
     rt: &impl Threads,
     alloc: Global,
@@ -52,8 +53,8 @@ pub fn run<S: Source, K: Sink>(
     ensures read_fault { result ≡ 3 → Rose (S.faults source.old) (S.faults source.new) }
     ensures write_fault { result ≡ 4 → Rose (K.faults sink.old) (K.faults sink.new) }
     ensures nothing { result ≡ 3 → K.written sink.new ≡ K.written sink.old }
-    ensures part { (result ≡ 4) ⊎ (result ≡ 5) → OutputsPart (map string_bytes words.now) (S.left source.old)
-        (K.written sink.old) (K.written sink.new) }
+    ensures part { (result ≡ 4) ⊎ (result ≡ 5) → OutputsPart (map string_bytes words.now)
+        (S.left source.old) (K.written sink.old) (K.written sink.new) }
     ensures statuses { result ≤ 5 }
 
     // Where no fault came the status is that of the output, unless memory ran out.
@@ -110,7 +111,8 @@ fn read_all<S: Source>(lines: &mut Lines, source: &mut S) -> InputEnd
 
 /// Writes what `factor` answers to this input.
 fn answer<K: Sink>(alloc: Global, input: &[u8], sink: &mut K) -> u8
-    ensures text { result < 3 → Outputs factor_words (Some input.now) (K.written sink.old) (K.written sink.new) result }
+    ensures text { result < 3 →
+        Outputs factor_words (Some input.now) (K.written sink.old) (K.written sink.new) result }
     ensures end { (result ≡ 4 → ⊥) → (result ≡ 5 → ⊥) → result < 3 }
     ensures write_fault { result ≡ 4 → Rose (K.faults sink.old) (K.faults sink.new) }
     ensures part { (result ≡ 4) ⊎ (result ≡ 5) →
@@ -129,7 +131,8 @@ fn answer<K: Sink>(alloc: Global, input: &[u8], sink: &mut K) -> u8
 /// Writes the text, and answers the status, or that the sink failed.
 fn finish<K: Sink>(sink: &mut K, text: &[u8], status: u8) -> u8
     requires { status < 3 }
-    ensures done { result ≢ 4 → (result ≡ status) × WritesAll (K.written sink.old) (K.written sink.new) text.now }
+    ensures done { result ≢ 4 →
+        (result ≡ status) × WritesAll (K.written sink.old) (K.written sink.new) text.now }
     ensures failed { result ≡ 4 → WritesPart (K.written sink.old) (K.written sink.new) text.now }
     ensures write_fault { result ≡ 4 → Rose (K.faults sink.old) (K.faults sink.new) }
     ensures faults { K.faults sink.old ≤ K.faults sink.new }

@@ -1,8 +1,10 @@
 //! Pieces of a text: cuts, prefixes and numbers.
 ghost use Rattle.std.specs.Prelude.{◌≡◌, ◌↔◌, ◌<◌, ◌^◌, true, IsTrue, IfSome, length, ◌≤◌};
 ghost use Rattle.std.specs.List.{list_all};
-ghost use Rattle.hensel_tool.specs.Numbers.{is_name as is_name_text, is_name_byte as is_byte_of_name};
-ghost use Rattle.hensel_tool.specs.PlainReading.{Gives, cut_at, strip as strip_text, number_at_most};
+ghost use Rattle.hensel_tool.specs.Numbers.{is_name as is_name_text};
+ghost use Rattle.hensel_tool.specs.Numbers.{is_name_byte as is_byte_of_name};
+ghost use Rattle.hensel_tool.specs.PlainReading.{Gives, cut_at, strip as strip_text};
+ghost use Rattle.hensel_tool.specs.PlainReading.{number_at_most};
 
 /// What is before the first such byte, and what is behind it.
 pub fn cut(bytes: &[u8], byte: u8) -> Option<(&[u8], &[u8])>

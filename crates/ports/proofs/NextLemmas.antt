@@ -1,36 +1,56 @@
 -- What a request for the next line does, step by step.
-use Rattle.std.proofs.Common.{◌≡◌, ℕ, ◌+◌, ◌-◌, ◌<◌, ◌≤◌, true, List, [], ◌∷◌, ◌++◌, Option, length, take, drop, get_or, ap, sym, ◌∙◌, subst, inl, inr, arith, append_assoc, length-drop, length-take}
+use Rattle.std.proofs.Common.{◌≡◌, ◌≢◌, ℕ, ◌+◌, ◌-◌, ◌<◌, ◌≤◌, true, List, [], ◌∷◌, ◌++◌, Option, length, take, drop}
+use Rattle.std.proofs.Common.{get_or, ap, sym, ◌∙◌, subst, inl, inr, arith, append_assoc, length-drop, length-take}
 use Rattle.std.proofs.lemmas.List.{take-append-drop, drop_more, drop_all, take_all, drop-append-le}
-use Rattle.ports.specs.Reading.{Reading, HasNoNewline, EndsBefore, HoldsLine, IsLine, KeepsLine, PullsMore, TakesLine, rest_of, without_return}
+use Rattle.ports.specs.Reading.{Reading, HasNoNewline, EndsBefore, HoldsLine, IsLine, KeepsLine, PullsMore, TakesLine}
+use Rattle.ports.specs.Reading.{rest_of, without_return}
 use Rattle.ports.proofs.BufferLemmas.{TakesBytes-joined}
 
 -- what a line from s up to k and its newline leave of the bytes
-line_split : (xs : List ℕ) (s k : ℕ) → s ≤ k → k < length xs → get_or xs k 0 ≡ 10 → drop s xs ≡ drop s (take k xs) ++ 10 ∷ drop (k + 1) xs
+line_split : (xs : List ℕ) (s k : ℕ) → s ≤ k → k < length xs → get_or xs k 0 ≡ 10 →
+    drop s xs ≡ drop s (take k xs) ++ 10 ∷ drop (k + 1) xs
 line_split xs s k order within newline =
     let whole : xs ≡ take k xs ++ drop k xs = sym (take-append-drop k xs) in
-    let rest : drop k xs ≡ 10 ∷ drop (k + 1) xs = drop_more xs k 0 within ∙ ap (λ (b : ℕ). b ∷ drop (k + 1) xs) newline in
-    ap (λ (ys : List ℕ). drop s ys) whole ∙ (drop-append-le s (take k xs) (drop k xs) (omega (arith, length-take k xs)) ∙ ap (λ (ys : List ℕ). drop s (take k xs) ++ ys) rest)
+    let rest : drop k xs ≡ 10 ∷ drop (k + 1) xs =
+    drop_more xs k 0 within ∙ ap (λ (b : ℕ). b ∷ drop (k + 1) xs) newline in
+    let fits : s ≤ length (take k xs) = omega (arith, length-take k xs) in
+    ap (λ (ys : List ℕ). drop s ys) whole ∙
+    (drop-append-le s (take k xs) (drop k xs) fits ∙ ap (λ (ys : List ℕ). drop s (take k xs) ++ ys) rest)
 
 -- a line behind which a newline stands
-pub TakesLine-newline : (old new : Reading) (k : ℕ) → EndsBefore old k → new.pulled ≡ old.pulled → new.place ≡ k + 1 → new.text ≡ without_return (drop old.place (take k old.pulled)) → new.number ≡ old.number + 1 → TakesLine old new
-TakesLine-newline old new k ends same place text number = record {
-  line = drop old.place (take k old.pulled);
-  is_line = (ends.first, inl (rw (same, place) (line_split old.pulled old.place k ends.from ends.within ends.newline)));
-  text = text;
-  number = number;
-  within = omega (arith, ends.limit, place);
-}
+pub TakesLine-newline : (old new : Reading) (k : ℕ) → EndsBefore old k →
+    new.pulled ≡ old.pulled → new.place ≡ k + 1 →
+    new.text ≡ without_return (drop old.place (take k old.pulled)) →
+    new.number ≡ old.number + 1 → TakesLine old new
+TakesLine-newline old new k ends same place text number =
+    let split = line_split old.pulled old.place k ends.from ends.within ends.newline in
+    record {
+      line = drop old.place (take k old.pulled);
+      is_line = (ends.first, inl (rw (same, place) split));
+      text = text;
+      number = number;
+      within = omega (arith, ends.limit, place);
+    }
 
 -- the line with which the input ends
-pub TakesLine-rest : (old new : Reading) (n : ℕ) → n ≡ length old.pulled → n ≤ 1048576 → HasNoNewline (drop old.place (take 1048576 old.pulled)) → old.place < n → new.pulled ≡ old.pulled → new.ended ≡ true → new.place ≡ n → new.text ≡ without_return (drop old.place (take n old.pulled)) → new.number ≡ old.number + 1 → TakesLine old new
+pub TakesLine-rest : (old new : Reading) (n : ℕ) → n ≡ length old.pulled → n ≤ 1048576 →
+    HasNoNewline (drop old.place (take 1048576 old.pulled)) → old.place < n →
+    new.pulled ≡ old.pulled → new.ended ≡ true → new.place ≡ n →
+    new.text ≡ without_return (drop old.place (take n old.pulled)) →
+    new.number ≡ old.number + 1 → TakesLine old new
 TakesLine-rest old new n is fits none some same ended place text number =
     let all : take 1048576 old.pulled ≡ old.pulled = take_all 1048576 old.pulled (omega arith) in
     let whole : take n old.pulled ≡ old.pulled = take_all n old.pulled (omega arith) in
-    let nothing : drop new.place new.pulled ≡ [] = drop_all new.place new.pulled (omega (arith, ap (λ (xs : List ℕ). length xs) same)) in
+    let behind : length new.pulled ≤ new.place = omega (arith, ap (λ (xs : List ℕ). length xs) same) in
+    let nothing : drop new.place new.pulled ≡ [] = drop_all new.place new.pulled behind in
     let size : length (drop old.place old.pulled) ≡ n - old.place = omega (arith, length-drop old.place old.pulled) in
+    let not_empty : drop old.place old.pulled ≢ [] =
+    λ empty. absurd (omega (arith, ap (λ (xs : List ℕ). length xs) empty)) in
+    let rest : drop old.place new.pulled ≡ drop old.place old.pulled =
+    ap (λ (xs : List ℕ). drop old.place xs) same in
     record {
       line = drop old.place old.pulled;
-      is_line = (rw all at none, inr (ended, (λ e. absurd (omega (arith, ap (λ (xs : List ℕ). length xs) e))), ap (λ (xs : List ℕ). drop old.place xs) same, nothing));
+      is_line = (rw all at none, inr (ended, not_empty, rest, nothing));
       text = rw whole at text;
       number = number;
       within = omega arith;
@@ -47,14 +67,23 @@ TakesLine-kept a b d kept takes = record {
 }
 
 pub KeepsLine-joined : (a b d : Reading) → KeepsLine a b → KeepsLine b d → KeepsLine a d
-KeepsLine-joined a b d one two = record { text = two.text ∙ one.text; number = two.number ∙ one.number; place = two.place ∙ one.place }
+KeepsLine-joined a b d one two = record {
+  text = two.text ∙ one.text;
+  number = two.number ∙ one.number;
+  place = two.place ∙ one.place;
+}
 
-pub PullsMore-joined : (a b d : Reading) (left left' left'' : Option (List ℕ)) → PullsMore a b left left' → PullsMore b d left' left'' → PullsMore a d left left''
+pub PullsMore-joined : (a b d : Reading) (left left' left'' : Option (List ℕ)) →
+    PullsMore a b left left' → PullsMore b d left' left'' → PullsMore a d left left''
 PullsMore-joined a b d left left' left'' one two =
-    (one.0 ++ two.0, two.1 ∙ (ap (λ (xs : List ℕ). xs ++ two.0) one.1 ∙ append_assoc a.pulled one.0 two.0), TakesBytes-joined left left' left'' one.0 two.0 one.2 two.2)
+    let first : b.pulled ++ two.0 ≡ (a.pulled ++ one.0) ++ two.0 = ap (λ (xs : List ℕ). xs ++ two.0) one.1 in
+    let bytes : d.pulled ≡ a.pulled ++ (one.0 ++ two.0) =
+    two.1 ∙ (first ∙ append_assoc a.pulled one.0 two.0) in
+    (one.0 ++ two.0, bytes, TakesBytes-joined left left' left'' one.0 two.0 one.2 two.2)
 
 -- a buffer that isn't full and has no newline behind the last line holds no line
-pub no_line : (r : Reading) → length r.pulled < 1048577 → HasNoNewline (drop r.place (take 1048576 r.pulled)) → HoldsLine r → ⊥
+pub no_line : (r : Reading) → length r.pulled < 1048577 →
+    HasNoNewline (drop r.place (take 1048576 r.pulled)) → HoldsLine r → ⊥
 no_line r free none holds =
     let all : take 1048576 r.pulled ≡ r.pulled = take_all 1048576 r.pulled (omega arith) in
     (rw all at none) holds.0 10 holds.1 holds.2

@@ -6,13 +6,16 @@ use Rattle.ports.specs.Bytes.{AddsBytes, WritesAll}
 use Rattle.ports.specs.declared.sink.Pushed.TheVariants.{Took}
 
 -- the piece that a push was given is the text behind the bytes that were taken before
-pub WritesAll-more : (w w1 w2 : Option (List ℕ)) (text piece : List ℕ) (done n : ℕ) → piece ≡ take (length text - done) (drop done text) → WritesAll w w1 (take done text) → AddsBytes w1 w2 piece (Took n) → WritesAll w w2 (take (done + n) text)
+pub WritesAll-more : (w w1 w2 : Option (List ℕ)) (text piece : List ℕ) (done n : ℕ) →
+    piece ≡ take (length text - done) (drop done text) → WritesAll w w1 (take done text) →
+    AddsBytes w1 w2 piece (Took n) → WritesAll w w2 (take (done + n) text)
 WritesAll-more None None w2 text piece done n is all adds = adds
 WritesAll-more None (Some b) w2 text piece done n is all adds = cc
 WritesAll-more (Some a) None w2 text piece done n is all adds = cc
 WritesAll-more (Some a) (Some b) w2 text piece done n is all adds =
     let e : b ≡ a ++ take done text = cc in
     let p : piece ≡ drop done text = is ∙ take_rest text done in
-    let t : take (done + n) text ≡ take done text ++ take n (drop done text) = take-add done n text in
-    let s : (a ++ take done text) ++ take n (drop done text) ≡ a ++ (take done text ++ take n (drop done text)) = append_assoc a (take done text) (take n (drop done text)) in
+    let more : List ℕ = take n (drop done text) in
+    let t : take (done + n) text ≡ take done text ++ more = take-add done n text in
+    let s : (a ++ take done text) ++ more ≡ a ++ (take done text ++ more) = append_assoc a (take done text) more in
     cc

@@ -1,6 +1,7 @@
 -- What a buffer of pulled bytes keeps true.
---     IsBuffer bytes filled scanned place ended start stop number      the bytes below `filled` were pulled, no newline stands
---         from `place` up to `scanned`, the last line's text stands from `start` up to `stop`, and each line took a byte
+--     IsBuffer bytes filled scanned place ended start stop number      the bytes below `filled`
+--         were pulled, no newline stands from `place` up to `scanned`, the last line's text stands
+--         from `start` up to `stop`, and each line took a byte
 use Rattle.std.specs.Prelude.{◌≡◌, ℕ, ◌≤◌, Bool, true, List, length, take, drop}
 use Rattle.ports.specs.Reading.{HasNoNewline}
 

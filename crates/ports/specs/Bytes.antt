@@ -1,16 +1,21 @@
 -- Bytes that a source has left and that a sink has written. None: it doesn't tell them.
 --     least_of a b      the least of the two and 4,294,967,295
---     GivesCount answer room      a pull gives at least one byte and at most as many as there is room for
---     TakesCount answer size      a push takes at least one byte and at most as many as the piece has
+--     GivesCount answer room      a pull gives at least one byte and at most as many as
+--         there is room for
+--     TakesCount answer size      a push takes at least one byte and at most as many as
+--         the piece has
 --     GivesFront bytes room answer      all bytes left that fit, and the end where none is left
 --     TakesFront piece answer      the whole piece, or its first 4,294,967,295 bytes
---     MovesBytes left left' into answer      what a pull did: Bytes n puts the first n bytes left into the first n places
---         of `into` and takes them away; End and Failed take nothing, and at End nothing is left
---     AddsBytes written written' piece answer      what a push did: Took n adds the first n bytes of the piece, Failed none
+--     MovesBytes left left' into answer      what a pull did: Bytes n puts the first n bytes left
+--         into the first n places of `into` and takes them away; End and Failed take nothing, and
+--         at End nothing is left
+--     AddsBytes written written' piece answer      what a push did: Took n adds the first n bytes
+--         of the piece, Failed none
 --     TakesBytes left left' taken      the bytes left began with `taken`, and the others are left
 --     AllTaken left      no byte is left, where that is told
 --     WritesAll written written' text      the text was added to what was written
---     WritesPart written written' text      a part of the text's beginning was added, and not the whole text
+--     WritesPart written written' text      a part of the text's beginning was added, and
+--         not the whole text
 use Rattle.std.specs.Prelude.{◌≡◌, ℕ, ◌<◌, ◌≤◌, List, [], ◌++◌, length, min, take, drop, Option, Some, None}
 use Rattle.ports.specs.declared.source.Pulled.{Pulled}
 use Rattle.ports.specs.declared.source.Pulled.TheVariants as pulled

@@ -1,18 +1,23 @@
 -- Lines of what was pulled from a source, and what a call that takes the next line does.
---     Reading      the bytes pulled so far, the place of the first byte behind the last line, whether the source has ended,
---         and the last line's text and number; before the first line the text is empty and the number 0
+--     Reading      the bytes pulled so far, the place of the first byte behind the last line,
+--         whether the source has ended, and the last line's text and number; before the first line
+--         the text is empty and the number 0
 --     rest_of r      the bytes pulled behind the last line
 --     HasNoNewline bytes      no byte is 10
 --     without_return line      the line without one 13 at its end; [] stays
---     IsLine bytes ended line      the bytes begin with this whole line: behind it a newline, or the end, where the source has
---         ended and the line isn't empty
---     TakesLine old new      the next line's text and number are there, and the place is behind it and its newline
---     NeedsLastByte r      byte 1,048,577 is there, and no newline before it: the next line needs that byte
+--     IsLine bytes ended line      the bytes begin with this whole line: behind it a newline, or
+--         the end, where the source has ended and the line isn't empty
+--     TakesLine old new      the next line's text and number are there, and the place is behind it
+--         and its newline
+--     NeedsLastByte r      byte 1,048,577 is there, and no newline before it: the next line needs
+--         that byte
 --     HoldsLine r      a newline is there behind the last line: a whole line
 --     KeepsLine old new      the last line, its number and the place behind it are as they were
 --     EndsBefore r k      the next line ends before the newline at place k
---     PullsMore old new left left'      some bytes more were pulled and kept, and the source gave them
-use Rattle.std.specs.Prelude.{◌≡◌, ◌≢◌, ℕ, ◌+◌, ◌<◌, ◌≤◌, ◌⊎◌, ◌==◌, if◌then◌else◌, Bool, true, List, [], ◌∷◌, ◌++◌, Option, length, slice_index, take, drop}
+--     PullsMore old new left left'      some bytes more were pulled and kept, and
+--         the source gave them
+use Rattle.std.specs.Prelude.{◌≡◌, ◌≢◌, ℕ, ◌+◌, ◌<◌, ◌≤◌, ◌⊎◌, ◌==◌, if◌then◌else◌, Bool, true, List, [], ◌∷◌, ◌++◌}
+use Rattle.std.specs.Prelude.{Option, length, slice_index, take, drop}
 use Rattle.std.specs.List.{All, Contains}
 use Rattle.ports.specs.Bytes.{TakesBytes}
 

@@ -1,9 +1,12 @@
 -- What a sink with a given room keeps, and what a push does to it.
---     Store      the bytes written, how many more fit, the most that a push takes, and the count of faults
+--     Store      the bytes written, how many more fit, the most that a push takes, and
+--         the count of faults
 --     taken_of store piece      how many bytes of a piece the next push takes
---     Pushes old new piece answer      Took n: that many bytes are added and their room is gone, nothing else changes;
---         Failed: no room was left, and the count of faults is raised, nothing else changes
---     IsStore len capacity size bite      a push takes at least one byte, and the bytes have their whole room reserved
+--     Pushes old new piece answer      Took n: that many bytes are added and their room is gone,
+--         nothing else changes; Failed: no room was left, and the count of faults is raised,
+--         nothing else changes
+--     IsStore len capacity size bite      a push takes at least one byte, and the bytes have their
+--         whole room reserved
 use Rattle.std.specs.Prelude.{◌≡◌, ℕ, ◌-◌, ◌≤◌, List, ◌++◌, length, min, take}
 use Rattle.ports.specs.Faults.{raised}
 use Rattle.ports.specs.declared.sink.Pushed.{Pushed}

@@ -1,10 +1,15 @@
 -- What a source of given pieces holds, and what a pull does to it.
---     Supply      the pieces left, the numbers of the pulls that fail, how many pulls there were, and the count of faults
---     given_of pieces room      how many bytes a pull gives: the first piece, or as much of its beginning as fits
---     taken n pieces      the pieces without the first n bytes of the first, and without the first where that is all of it
---     GivesPiece old new room answer      Bytes n: as many as above, and they are taken away; End: no piece is left;
---         Failed: the count of faults is raised. The pull is counted, and nothing else changes
---     pieces_from i place pieces      the pieces from the i-th on, that one from its byte `place` on
+--     Supply      the pieces left, the numbers of the pulls that fail, how many pulls there were,
+--         and the count of faults
+--     given_of pieces room      how many bytes a pull gives: the first piece, or as much of its
+--         beginning as fits
+--     taken n pieces      the pieces without the first n bytes of the first, and without the first
+--         where that is all of it
+--     GivesPiece old new room answer      Bytes n: as many as above, and they are taken away; End:
+--         no piece is left; Failed: the count of faults is raised. The pull is counted, and nothing
+--         else changes
+--     pieces_from i place pieces      the pieces from the i-th on, that one from
+--         its byte `place` on
 --     IsPlace i place pieces      the i-th piece has a byte `place`, or all pieces are behind
 use Rattle.std.specs.Prelude.{◌≡◌, ℕ, ◌<◌, ◌≤◌, List, [], ◌∷◌, length, drop, nat_lt, if◌then◌else◌}
 use Rattle.std.specs.List.{All}

@@ -1,5 +1,6 @@
 ghost use Rattle.std.specs.Prelude.{◌≡◌, ◌≢◌, ◌<◌, length};
-ghost use Rattle.ports.specs.Bytes.{AddsBytes, GivesCount, GivesFront, MovesBytes, TakesCount, TakesFront};
+ghost use Rattle.ports.specs.Bytes.{AddsBytes, GivesCount, GivesFront, MovesBytes};
+ghost use Rattle.ports.specs.Bytes.{TakesCount, TakesFront};
 
 use crate::copying::copy_front;
 use crate::sink::{Pushed, Sink};

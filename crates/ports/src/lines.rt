@@ -1,8 +1,12 @@
-ghost use Rattle.std.specs.Prelude.{◌≡◌, ◌⊎◌, ℕ, ◌+◌, ◌-◌, ◌<◌, ◌≤◌, ◌↔◌, [], IfOk, IfNone, IfSome, MatchOption, drop, length, slice_index, take, true, false};
+ghost use Rattle.std.specs.Prelude.{◌≡◌, ◌⊎◌, ℕ, ◌+◌, ◌-◌, ◌<◌, ◌≤◌, ◌↔◌, [], IfOk, IfNone};
+ghost use Rattle.std.specs.Prelude.{IfSome};
+ghost use Rattle.std.specs.Prelude.{MatchOption, drop, length, slice_index, take, true, false};
 ghost use Rattle.std.specs.Bool.{OnFalse, OnTrue};
 ghost use Rattle.ports.specs.Bytes.{AllTaken, GivesCount, MovesBytes};
 ghost use Rattle.ports.specs.Faults.{Rose};
-ghost use Rattle.ports.specs.Reading.{EndsBefore, HasNoNewline, HoldsLine, KeepsLine, NeedsLastByte, PullsMore, TakesLine, rest_of, without_return};
+ghost use Rattle.ports.specs.Reading.{EndsBefore, HasNoNewline, HoldsLine, KeepsLine};
+ghost use Rattle.ports.specs.Reading.{NeedsLastByte, PullsMore, TakesLine};
+ghost use Rattle.ports.specs.Reading.{rest_of, without_return};
 
 use crate::copying::behind;
 use crate::source::{Pulled, Source};
@@ -101,6 +105,7 @@ impl Lines {
 
         // What each answer says.
         ensures line { result ≡ NextLine.Line → TakesLine self.old self.new }
+        ensures onward { result ≡ NextLine.Line → self.old.place < self.new.place }
         ensures too_long { result ≡ NextLine.InputTooLong → NeedsLastByte self.new }
         ensures full { length self.new.pulled ≡ 1048577 →
             (result ≡ NextLine.Line) ⊎ (result ≡ NextLine.InputTooLong) }
@@ -215,6 +220,7 @@ impl Lines {
         ensures room { (length self.new.pulled ≤ 1048576) ×
             (self.new.place ≤ length self.new.pulled) }
         ensures line { result ≡ NextLine.Line → TakesLine self.old self.new }
+        ensures onward { result ≡ NextLine.Line → self.old.place < self.new.place }
         ensures end { result ≡ NextLine.End →
             (rest_of self.new ≡ []) × KeepsLine self.old self.new }
         ensures either { (result ≡ NextLine.Line) ⊎ (result ≡ NextLine.End) }

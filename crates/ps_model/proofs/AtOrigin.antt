@@ -32,7 +32,7 @@ module _ (S : SeriesRing) where
   roots_entries [] = (y_key S.variables 0, 1) ∷ []
   roots_entries (r ∷ rs) = normal (ring S) (times S (root_entries r) (roots_entries rs))
 
-  linear_listed : (c : ℕ) → linear (ring S) c ≡ polynomial (ring S) (linear_entries c)
+  pub linear_listed : (c : ℕ) → linear (ring S) c ≡ polynomial (ring S) (linear_entries c)
   unfolding linear
   linear_listed c = (λ i. sum (ring S) (monomial_listed (ring S) 1 (y_key S.variables 1) i)
       (monomial_listed (ring S) c (y_key S.variables 0) i)) ∙ sum_listed (ring S) _ _

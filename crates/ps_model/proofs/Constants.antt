@@ -88,7 +88,8 @@ module _ (R : Ring) where
       (ap (λ n. (n * h.inverse) % R.modulus) (constant-linear c) ∙ mul-mod_first c h.inverse R.modulus ∙ h.inverts)
 
   -- where Y is 0 after the shift by a root, the other roots' powers are units
-  pub unit_apart : (r : Root) (ss : List Root) → IsApart R.modulus r ss → HasUnit (shifted R r.value (root_powers {R = R} ss))
+  pub unit_apart : (r : Root) (ss : List Root) → IsApart R.modulus r ss →
+      HasUnit (shifted R r.value (root_powers {R = R} ss))
   unit_apart r [] h = subst HasUnit (sym (shifted-one R r.value)) unit-one
   unit_apart r (s ∷ ss) h = subst HasUnit (sym (shifted-product R r.value _ _))
       (unit-product _ _

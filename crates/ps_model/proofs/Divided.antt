@@ -12,7 +12,8 @@ use Rattle.ps_model.specs.SeriesRing.{SeriesRing, ring}
 use Rattle.ps_model.specs.Tree.{has_y}
 use Rattle.ps_model.specs.Value.{IsValue}
 use Rattle.ps_model.specs.Job.{series_ring}
-use Rattle.ps_model.specs.Examples.{x, y, number, added, subtracted, divided, raised, two_y_squared, geometric, halved, key}
+use Rattle.ps_model.specs.Examples.{x, y, number, added, subtracted, divided, raised, two_y_squared, geometric}
+use Rattle.ps_model.specs.Examples.{halved, key}
 use Rattle.ps_model.proofs.Coefficients.{coefficient-polynomial}
 use Rattle.ps_model.proofs.FormalSums.{normal, zero_listed}
 use Rattle.ps_model.proofs.Evaluated.{undivided, times, cut, signed, evaluated, is_value, of_sum}
@@ -35,7 +36,8 @@ module _ (S : SeriesRing) (D : ℕ) where
       is_value S D b h',
       (
         none,
-        subst (IsUnit S.modulus) (sym (coefficient-polynomial (ring S) (evaluated S D b) (y_key S.variables 0))) is_unit,
+        subst (IsUnit S.modulus) (sym (coefficient-polynomial (ring S) (evaluated S D b) (y_key S.variables 0)))
+            is_unit,
         is_quotient S D (evaluated S D a) (evaluated S D b) qs within back,
       ),
       refl,

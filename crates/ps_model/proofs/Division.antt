@@ -11,7 +11,8 @@ use Rattle.ps_model.specs.Truncation.{homogeneous_part}
 use Rattle.ps_model.specs.Polynomial.{difference, Polynomial, zero as nought, one, monomial, sum, product, kept_terms}
 use Rattle.ps_model.specs.Polynomial.{image}
 use Rattle.ps_model.proofs.Coefficients.{linear_form, same_values, above_zero}
-use Rattle.ps_model.proofs.Values.{linear_form-monomial, linear_form-image, linear_form-kept_terms, linear_form-product}
+use Rattle.ps_model.proofs.Values.{linear_form-monomial, linear_form-image, linear_form-kept_terms}
+use Rattle.ps_model.proofs.Values.{linear_form-product}
 use Rattle.ps_model.proofs.Values.{linear_form-mod, linear_form-residue}
 use Rattle.ps_model.proofs.RingLaws.{sum-comm, zero-sum, product-comm, product-assoc, product-one, sum-product}
 use Rattle.ps_model.proofs.RingLaws.{zero-product, sum-difference, difference-sum, difference-self}

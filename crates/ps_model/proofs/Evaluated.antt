@@ -13,7 +13,8 @@ use Rattle.ps_model.specs.Truncation.{truncated}
 use Rattle.ps_model.specs.SeriesRing.{SeriesRing, ring, degree, Poly}
 use Rattle.ps_model.specs.Value.{variable_key, IsValue, IsSumValue, IsProductValue, IsLaterValue}
 use Rattle.ps_model.proofs.Maps.{first_part, second_part}
-use Rattle.ps_model.proofs.FormalSums.{normal, polynomial-normal, zero_listed, one_listed, monomial_listed, sum_listed}
+use Rattle.ps_model.proofs.FormalSums.{normal, polynomial-normal, zero_listed, one_listed, monomial_listed}
+use Rattle.ps_model.proofs.FormalSums.{sum_listed}
 use Rattle.ps_model.proofs.FormalSums.{negative_listed, product_listed, kept_listed}
 
 abbrev mutual

@@ -21,7 +21,8 @@ use Rattle.ps_model.proofs.Division.{quotient, divided}
 use Rattle.ps_model.proofs.Degrees.{homogeneous_part-grown, homogeneous-difference, homogeneous-below, below_more}
 use Rattle.ps_model.proofs.Degrees.{below_of-product}
 use Rattle.ps_model.proofs.Origin.{coefficient-kept_terms}
-use Rattle.ps_model.proofs.Preparation.{flat_y, degree-y_degree, degree-down, first, first_up, first_flat, first_origin}
+use Rattle.ps_model.proofs.Preparation.{flat_y, degree-y_degree, degree-down, first, first_up, first_flat}
+use Rattle.ps_model.proofs.Preparation.{first_origin}
 use Rattle.ps_model.proofs.Preparation.{inverter, inverts, missing, next_p, next_u, pair}
 
 record Grown (R : Ring) (G : Polynomial R) (k q r : ℕ) (p u : Polynomial R) : Type 0 where

@@ -13,7 +13,8 @@ use Rattle.ps_model.specs.Factors.{IsFactor, EachIsFactor, IsFactorList, AreApar
 use Rattle.ps_model.specs.Job.{job_ring, IsFactors}
 use Rattle.ps_model.specs.Value.{IsValue}
 use Rattle.ps_model.specs.Examples.{key}
-use Rattle.ps_model.proofs.FormalSums.{normal, polynomial-normal, same_sums, one_listed, monomial_listed, product_listed}
+use Rattle.ps_model.proofs.FormalSums.{normal, polynomial-normal, same_sums, one_listed, monomial_listed}
+use Rattle.ps_model.proofs.FormalSums.{product_listed}
 use Rattle.ps_model.proofs.FormalSums.{kept_listed}
 use Rattle.ps_model.proofs.RingLaws.{one-product}
 use Rattle.ps_model.proofs.Factors.{factors, truncated-again}

@@ -15,7 +15,8 @@ use Rattle.ps_model.specs.declared.job.Root.{Root}
 use Rattle.ps_model.specs.Factors.{total_times, product_of, each_truncated, root_power, root_powers, IsFactorable}
 use Rattle.ps_model.specs.Factors.{IsFactor, EachIsFactor, IsFactorList}
 use Rattle.ps_model.specs.Polynomial.{Polynomial, coefficient, one, monomial, product, power, kept_terms}
-use Rattle.ps_model.proofs.Truncations.{truncated-zero, truncated-product, homogeneous_part-product, kept_terms-always}
+use Rattle.ps_model.proofs.Truncations.{truncated-zero, truncated-product, homogeneous_part-product}
+use Rattle.ps_model.proofs.Truncations.{kept_terms-always}
 use Rattle.ps_model.proofs.Truncations.{homogeneous_part-truncated}
 use Rattle.ps_model.proofs.Homogeneous.{homogeneous-one}
 use Rattle.ps_model.proofs.Degrees.{kept_terms-commute, homogeneous-below, below_of-product}
@@ -27,7 +28,8 @@ use Rattle.ps_model.proofs.Division.{down, y_power, down-up, up-cancel, below-up
 use Rattle.ps_model.proofs.Origin.{coefficient-kept_terms, coefficient-zero, coefficient-down}
 use Rattle.ps_model.proofs.Preparation.{flat_y, first, pair, is_pair, origin_u}
 use Rattle.ps_model.proofs.Existence.{prepared, monic_y_degree}
-use Rattle.ps_model.proofs.Monic.{monic-product, monic_cofactor, monic_from, monic-one, monic-shifted, monic-truncated}
+use Rattle.ps_model.proofs.Monic.{monic-product, monic_cofactor, monic_from, monic-one, monic-shifted}
+use Rattle.ps_model.proofs.Monic.{monic-truncated}
 use Rattle.ps_model.proofs.Monic.{shifted-y_degree, truncated-y_degree}
 use Rattle.ps_model.proofs.Constants.{HasUnit, unit_apart}
 

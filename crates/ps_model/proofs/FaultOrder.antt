@@ -122,7 +122,8 @@ the_pair m e r s i j d (a, b, pos, lt, at, at', is, not_unit) =
 
 pub apart : (m : ℕ) (e : Expr) (r s : Root) → IsUnit m ((r.value + (m - s.value)) % m) → (i j d g : ℕ)
     → IsFault (job m e (r ∷ s ∷ [])) (NotApart i j d g) → ⊥
-apart m e r s unit i j d g (near, gcd, first) = let p = the_pair m e r s i j d near in p.3 (subst (IsUnit m) (sym (p.2)) unit)
+apart m e r s unit i j d g (near, gcd, first) = let p = the_pair m e r s i j d near in
+    p.3 (subst (IsUnit m) (sym (p.2)) unit)
 
 pub near : (m : ℕ) (e : Expr) (r s : Root) (g : ℕ) → (IsUnit m ((r.value + (m - s.value)) % m) → ⊥)
     → IsGcd ((r.value + (m - s.value)) % m) m g

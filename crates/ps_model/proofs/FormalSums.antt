@@ -1,5 +1,5 @@
--- Polynomials given by formal sums: what the operations are there, and one form of each sum, so that what is written out
--- in numbers computes.
+-- Polynomials given by formal sums: what the operations are there, and one form of each sum, so
+-- that what is written out in numbers computes.
 use Rattle.std.proofs.Common.{◌≡◌, ℕ, ◌+◌, ◌*◌, ◌%◌, Bool, true, false, cond, T, List, [], ◌∷◌, ◌++◌, refl, sym, ◌∙◌}
 use Rattle.std.proofs.Common.{◌-◌}
 use Rattle.std.proofs.Common.{ap, arith}
@@ -19,7 +19,7 @@ use Rattle.ps_model.proofs.Values.{linear_form-sum, linear_form-scaled, linear_f
 use Rattle.ps_model.proofs.Values.{total-mod}
 use Rattle.ps_model.proofs.RingLaws.{mul-mod_last}
 use Rattle.ps_model.proofs.Maps.{entries-from_entries}
-use Rattle.ps_model.proofs.PlainScaled.{AreResidues, is_collected}
+use Rattle.ps_model.proofs.Collected.{AreResidues, is_collected}
 
 -- the entries whose coefficients aren't 0
 abbrev pub nonzero : {K : Type 0} → List (K × ℕ) → List (K × ℕ)

@@ -1,10 +1,14 @@
 -- Induction over trees, with plain lists of summands and factors.
 use Rattle.std.proofs.Common.{◌≡◌, ◌∙◌, sym, ap, subst, refl, ℕ, List, [], ◌∷◌}
-use Rattle.ps_model.specs.declared.expr.Expr.{Expr, Number, Name, MainVariable, Sum, Product, Power, Sum', Product', Power', end_of-Expr, more_of-Expr, Row_of-Summand, end_of-Summand, more_of-Summand, Row_of-Factor, end_of-Factor, more_of-Factor}
+use Rattle.ps_model.specs.declared.expr.Expr.{Expr, Number, Name, MainVariable, Sum, Product, Power, Sum', Product'}
+use Rattle.ps_model.specs.declared.expr.Expr.{Power', end_of-Expr, more_of-Expr, Row_of-Summand, end_of-Summand}
+use Rattle.ps_model.specs.declared.expr.Expr.{more_of-Summand, Row_of-Factor, end_of-Factor, more_of-Factor}
 use Rattle.ps_model.specs.declared.expr.Summand.{Summand}
 use Rattle.ps_model.specs.declared.expr.Factor.{Factor}
-use Rattle.ps_model.specs.declared.expr.Expr.TheBlock.{shown-the_row-Summand-0, shown-the_row-Factor-1, hidden-the_row-Expr-2}
-use Rattle.ps_model.specs.declared.expr.Expr.TheViews.{outs-Sum', rolls-Sum, outs-Product', rolls-Product, roll-Expr, out-Expr, the_lemmas}
+use Rattle.ps_model.specs.declared.expr.Expr.TheBlock.{shown-the_row-Summand-0, shown-the_row-Factor-1}
+use Rattle.ps_model.specs.declared.expr.Expr.TheBlock.{hidden-the_row-Expr-2}
+use Rattle.ps_model.specs.declared.expr.Expr.TheViews.{outs-Sum', rolls-Sum, outs-Product', rolls-Product, roll-Expr}
+use Rattle.ps_model.specs.declared.expr.Expr.TheViews.{out-Expr, the_lemmas}
 use Rattle.ps_model.specs.declared.expr.Expr.TheOpen as layer
 use denote.Hole.Carrier.{shown, hidden}
 
@@ -16,24 +20,31 @@ abbrev pub factors_in : {m : _} → Row_of-Factor m → List Factor
 factors_in end_of-Factor = []
 factors_in (more_of-Factor divide of rest) = record { divide = divide; of = of } ∷ factors_in rest
 
-summands_shown : (shape : List (Unit {0})) (row : Row_of-Summand _) → shown-the_row-Summand-0 shape row ≡ summands_in row
+summands_shown : (shape : List (Unit {0})) (row : Row_of-Summand _) →
+    shown-the_row-Summand-0 shape row ≡ summands_in row
 unfolding shown-the_row-Summand-0 shown
 summands_shown [] end_of-Summand = refl
-summands_shown (u ∷ shape) (more_of-Summand minus of rest) = ap (λ (ss : List Summand). record { minus = minus; of = of } ∷ ss) (summands_shown shape rest)
+summands_shown (u ∷ shape) (more_of-Summand minus of rest) =
+    ap (λ (ss : List Summand). record { minus = minus; of = of } ∷ ss) (summands_shown shape rest)
 
 factors_shown : (shape : List (Unit {0})) (row : Row_of-Factor _) → shown-the_row-Factor-1 shape row ≡ factors_in row
 unfolding shown-the_row-Factor-1 shown
 factors_shown [] end_of-Factor = refl
-factors_shown (u ∷ shape) (more_of-Factor divide of rest) = ap (λ (fs : List Factor). record { divide = divide; of = of } ∷ fs) (factors_shown shape rest)
+factors_shown (u ∷ shape) (more_of-Factor divide of rest) =
+    ap (λ (fs : List Factor). record { divide = divide; of = of } ∷ fs) (factors_shown shape rest)
 
 out_roll : (e : Expr) → roll-Expr (out-Expr e) ≡ e
 out_roll e = search the_lemmas
 
 Sum-is : (shape : List (Unit {0})) (row : Row_of-Summand _) → Sum (summands_in row) ≡ Sum' shape row
-Sum-is shape row = sym (rolls-Sum (summands_in row)) ∙ ap (λ (ss : List Summand). roll-Expr (layer.Sum ss)) (sym (summands_shown shape row)) ∙ ap roll-Expr (sym (outs-Sum' shape row)) ∙ out_roll (Sum' shape row)
+Sum-is shape row = sym (rolls-Sum (summands_in row)) ∙
+    ap (λ (ss : List Summand). roll-Expr (layer.Sum ss)) (sym (summands_shown shape row)) ∙
+    ap roll-Expr (sym (outs-Sum' shape row)) ∙ out_roll (Sum' shape row)
 
 Product-is : (shape : List (Unit {0})) (row : Row_of-Factor _) → Product (factors_in row) ≡ Product' shape row
-Product-is shape row = sym (rolls-Product (factors_in row)) ∙ ap (λ (fs : List Factor). roll-Expr (layer.Product fs)) (sym (factors_shown shape row)) ∙ ap roll-Expr (sym (outs-Product' shape row)) ∙ out_roll (Product' shape row)
+Product-is shape row = sym (rolls-Product (factors_in row)) ∙
+    ap (λ (fs : List Factor). roll-Expr (layer.Product fs)) (sym (factors_shown shape row)) ∙
+    ap roll-Expr (sym (outs-Product' shape row)) ∙ out_roll (Product' shape row)
 
 Power-is : (b : Expr) (n : ℕ) → Power b n ≡ Power' _ (more_of-Expr b end_of-Expr) n
 unfolding hidden-the_row-Expr-2 hidden

@@ -24,7 +24,13 @@ pub mod Slices
 pub mod Quotients
 pub mod Maps
 pub mod PlainTerms
-pub mod PlainScaled
+pub mod PlainOrder
+pub mod PlainSums
+pub mod PlainKept
+pub mod PlainPolynomials
+pub mod PlainBounds
+pub mod PlainChecks
+pub mod Collected
 pub mod Retained
 pub mod Prepared
 pub mod SumsBetween
@@ -47,4 +53,5 @@ pub mod Leads
 pub mod FaultOrder
 pub mod AtOrigin
 pub mod FactorSums
+pub mod ShiftSums
 pub mod Divided

@@ -1,5 +1,6 @@
 -- Slices of a shifted polynomial, and rows of it.
-use Rattle.std.proofs.Common.{◌≡◌, ℕ, zero, suc, ◌+◌, ◌-◌, ◌*◌, ◌%◌, ◌^◌, ◌<◌, Bool, true, false, cond, refl, sym, ◌∙◌}
+use Rattle.std.proofs.Common.{◌≡◌, ℕ, zero, suc, ◌+◌, ◌-◌, ◌*◌, ◌%◌, ◌^◌, ◌<◌, Bool, true, false, cond, refl, sym}
+use Rattle.std.proofs.Common.{◌∙◌}
 use Rattle.std.proofs.Common.{ap, arith, inl, inr}
 use Rattle.std.specs.Prelude.{◌==◌}
 use Rattle.std.proofs.Math.Dec.{leb}
@@ -7,7 +8,8 @@ use Rattle.std.proofs.Math.Nat.{add-mod, mod-eq_of_lt}
 use Rattle.std.proofs.lemmas.Nat.{mul-mod_first}
 use Rattle.std.proofs.lemmas.Bool.{cases_lt, leb-true, le-leb, eq-eqb, eqb-true}
 use Rattle.ps_model.specs.Ring.{Ring}
-use Rattle.ps_model.specs.Polynomial.{Polynomial, zero as nought, coefficient, monomial, sum, scaled, kept_terms, image}
+use Rattle.ps_model.specs.Polynomial.{Polynomial, zero as nought, coefficient, monomial, sum, scaled, kept_terms}
+use Rattle.ps_model.specs.Polynomial.{image}
 use Rattle.ps_model.specs.Polynomial.{sum_to, sum_between}
 use Rattle.ps_model.specs.Truncation.{homogeneous_part}
 use Rattle.ps_model.specs.Shift.{shifted, binomial, numbers_to}

@@ -1,6 +1,7 @@
 -- Stages: of a list of factors the first is split off by a prepared pair, and what is left has the later ones as its
 -- list.
-use Rattle.std.proofs.Common.{◌≡◌, ℕ, zero, suc, ◌-◌, ◌<◌, ◌≤◌, List, [], ◌∷◌, length, drop, get_or, refl, sym, ◌∙◌, ap}
+use Rattle.std.proofs.Common.{◌≡◌, ℕ, zero, suc, ◌-◌, ◌<◌, ◌≤◌, List, [], ◌∷◌, length, drop, get_or, refl, sym, ◌∙◌}
+use Rattle.std.proofs.Common.{ap}
 use Rattle.std.proofs.Common.{subst, arith}
 use Rattle.ps_model.specs.Ring.{Ring}
 use Rattle.ps_model.specs.Polynomial.{Polynomial, zero as nought}
@@ -13,7 +14,8 @@ use Rattle.ps_model.specs.Factors.{IsFactorList}
 use Rattle.ps_model.proofs.ShiftDegrees.{truncated-shifted}
 use Rattle.ps_model.proofs.Monic.{monic-truncated}
 use Rattle.ps_model.proofs.Preparation.{pair, is_pair}
-use Rattle.ps_model.proofs.Factors.{truncated-again, truncated-lower, preparable, f_prepared, rest_is, rest_factorable}
+use Rattle.ps_model.proofs.Factors.{truncated-again, truncated-lower, preparable, f_prepared, rest_is}
+use Rattle.ps_model.proofs.Factors.{rest_factorable}
 use Rattle.ps_model.proofs.Factors.{forth, back, g, back-forth, product-each_truncated}
 
 module _ (R : Ring) where

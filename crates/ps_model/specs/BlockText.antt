@@ -2,11 +2,12 @@
 --     power_text name p      *NAME, *NAME^P from the second power on, and nothing for the power 0
 --     term_text names t      a coefficient and the powers of its monomial
 --     terms_text names ts      terms joined by plus signs; 0 where there are none
---     terms_of_degree S p j r      the terms of degree r of the coefficient of Y^j, by falling powers of the first variable, then
---         of the next
+--     terms_of_degree S p j r      the terms of degree r of the coefficient of Y^j, by falling
+--         powers of the first variable, then of the next
 --     printed_terms S p j D      those of the degrees 0 to D, one degree after another
 --     power_line S names D p j      the line of the coefficient of Y^j
---     block_text S names roots fs D      the block: the precision, and for each root its factor's lines from Y^times to Y^0
+--     block_text S names roots fs D      the block: the precision, and for each root its factor's
+--         lines from Y^times to Y^0
 use Rattle.std.specs.Prelude.{ℕ, zero, suc, ◌==◌, ◌&&◌, List, [], ◌∷◌, ◌++◌, filter, codes, decimal}
 use Rattle.std.specs.List.{flat_map}
 use Rattle.ps_model.specs.declared.job.Root.{Root}

@@ -1,15 +1,20 @@
 -- Jobs: the ring in which one is computed, what is wrong with one, and its factors.
---     series_ring m      polynomials in Y and eight variables of weight 1 modulo m; below 2 it takes 2
+--     series_ring m      polynomials in Y and eight variables of weight 1 modulo m; below 2 it
+--         takes 2
 --     job_ring job      those modulo the job's modulus
 --     Fault      what may be wrong with a job, with the values that are told
 --     order f      the faults' one order, from 1
 --     IsFault job f      this is wrong with the job
 --     IsFirstFault job f      it is, and nothing that comes earlier in the order
 --     IsValidJob job      nothing is wrong with it
---     leading_series job D      the coefficient of Y ^ formal_degree that the product of the factors is multiplied by: 1
---     AreFactorsOf job D value fs      monic factors, at the origin the root powers, whose product up to degree D is the value
---     IsFactors job D fs      the same of the value of the job's tree: the list of factors of Hensel's lemma
-use Rattle.std.specs.Prelude.{◌≡◌, ◌≢◌, ℕ, zero, suc, ◌+◌, ◌-◌, ◌%◌, ◌<◌, ◌≤◌, ◌⊎◌, min, max, true, Some, List, slice_get}
+--     leading_series job D      the coefficient of Y ^ formal_degree that the product of the
+--         factors is multiplied by: 1
+--     AreFactorsOf job D value fs      monic factors, at the origin the root powers, whose product
+--         up to degree D is the value
+--     IsFactors job D fs      the same of the value of the job's tree: the list of factors of
+--         Hensel's lemma
+use Rattle.std.specs.Prelude.{◌≡◌, ◌≢◌, ℕ, zero, suc, ◌+◌, ◌-◌, ◌%◌, ◌<◌, ◌≤◌, ◌⊎◌, min, max, true, Some, List}
+use Rattle.std.specs.Prelude.{slice_get}
 use Rattle.std.specs.Int.{IsGcd}
 use Rattle.std.proofs.Common.{lit<, arith}
 use Rattle.ps_model.specs.declared.expr.Expr.{Expr}
@@ -131,7 +136,8 @@ IsValidJob job = (f : Fault) → IsFault job f → ⊥
 abbrev pub leading_series : (job : JobData) → ℕ → Poly (job_ring job)
 leading_series job D = one
 
-pub record AreFactorsOf (job : JobData) (D : ℕ) (value : Poly (job_ring job)) (fs : List (Poly (job_ring job))) : Type 0 where
+pub record AreFactorsOf (job : JobData) (D : ℕ) (value : Poly (job_ring job)) (fs : List (Poly (job_ring job))) :
+    Type 0 where
   pub each : EachIsFactor D job.roots fs
   pub product_is : truncated D (product (leading_series job D) (product_of fs)) ≡ value
 

@@ -17,9 +17,10 @@ pub mod Factors
 pub mod SeriesRing
 pub mod Props
 pub mod Plain
-pub mod PlainScaled
 pub mod Tree
 pub mod Value
 pub mod Job
+pub mod PlainLists
+pub mod PlainPolynomial
 pub mod BlockText
 pub mod Examples

@@ -11,7 +11,8 @@ use Rattle.std.specs.FinMap.{FinMap}
 use Rattle.std.proofs.Common.{refl, sym, ◌∙◌, add_assoc, add_comm, zero-add}
 use Rattle.ps_model.specs.Ring.{Ring}
 use Rattle.ps_model.specs.Polynomial.{Polynomial}
-use Rattle.ps_model.specs.Keys.{Powers, no_powers, add_powers, weighted, ArePositive, Key, add_keys, y_key, key_compare}
+use Rattle.ps_model.specs.Keys.{Powers, no_powers, add_powers, weighted, ArePositive, Key, add_keys, y_key}
+use Rattle.ps_model.specs.Keys.{key_compare}
 use Rattle.ps_model.specs.KeyLaws.{key_compare_total, key_compare-IsAntisymmetric, add_powers-assoc, add_powers-comm}
 use Rattle.ps_model.specs.KeyLaws.{no_powers-add, weighted-add, weighted-none, weighted_zero}
 

@@ -1,7 +1,8 @@
 -- What a tree stands for: its value up to a degree, and its leading number.
 --     variable_key n i      the key of the variable i of n; of none, the key of 1
 --     IsValue S D e p      p is the value of the tree e, truncated at D
---     HasLead S e l      the leading number of e, the coefficient of Y ^ formal_degree, is known by the tree's form, and is l
+--     HasLead S e l      the leading number of e, the coefficient of Y ^ formal_degree, is known by
+--         the tree's form, and is l
 use Rattle.std.specs.Prelude.{◌≡◌, ℕ, zero, suc, ◌+◌, ◌-◌, ◌*◌, ◌%◌, ◌^◌, ◌<◌, ◌==◌, ◌⊎◌, true, false, MatchBool}
 use Rattle.std.specs.Prelude.{if◌then◌else◌}
 use Rattle.ps_model.specs.declared.expr.Expr.{Expr, Number, Name, MainVariable, Sum', Product', Power'}

@@ -4,7 +4,7 @@ ghost use Rattle.std.specs.Prelude.{◌≡◌, ℕ, List, [], ◌∷◌, ◌++�
 ghost use Rattle.ps_model.specs.Tree.{formal_degree, node_count, has_y, divisors, IsValidTree};
 ghost use Rattle.ps_model.specs.Value.{HasLead, IsValue};
 ghost use Rattle.ps_model.specs.SeriesRing.{Poly};
-ghost use Rattle.ps_model.specs.Notation.{zero, one};
+ghost use Rattle.ps_model.specs.Notation.{zero, one, shifted};
 ghost use Rattle.ps_model.specs.BlockText.{power_line, block_text};
 ghost use Rattle.ps_model.specs.Job.{series_ring, job_ring, IsFactors, IsFirstFault};
 ghost use Rattle.ps_model.specs.Job.{IsValidJob, DividesByY};
@@ -146,6 +146,17 @@ pub fn values()
     ensures power_zero { IsValue (series_ring 7) 2 (raised (number 0) 0) one }
     ensures by_x { (v : Poly (series_ring 7)) → IsValue (series_ring 7) 2 (divided x x) v → ⊥ }
     ensures by_y { (v : Poly (series_ring 7)) → IsValue (series_ring 7) 2 (divided y y) v → ⊥ }
+{}
+
+/// The shift, Y + c in place of Y: of Y^2 by 3 modulo 7, and back; and of x * Y, modulo 15.
+pub fn shifts()
+    ensures square { shifted 3 (written (series_ring 7) ((1, [], 2) ∷ []))
+        ≡ written (series_ring 7) ((2, [], 0) ∷ (6, [], 1) ∷ (1, [], 2) ∷ []) }
+    ensures back { shifted 4 (written (series_ring 7)
+        ((2, [], 0) ∷ (6, [], 1) ∷ (1, [], 2) ∷ []))
+        ≡ written (series_ring 7) ((1, [], 2) ∷ []) }
+    ensures variable { shifted 10 (written (series_ring 15) ((1, 1 ∷ [], 1) ∷ []))
+        ≡ written (series_ring 15) ((10, 1 ∷ [], 0) ∷ (1, 1 ∷ [], 1) ∷ []) }
 {}
 
 /// The factors of a job modulo 15, up to degree 1, and no other list; and of one with a double

@@ -8,8 +8,8 @@ pub struct Root {
     pub times: u32,
 }
 
-/// What is to be factored: the polynomial that the tree stands for, in Y and n variables modulo a number, by its roots
-/// at the origin.
+/// What is to be factored: the polynomial that the tree stands for, in Y and n variables modulo a
+/// number, by its roots at the origin.
 #[derive(Debug, Drop)]
 pub struct JobData {
     pub modulus: u64,

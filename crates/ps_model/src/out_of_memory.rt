@@ -2,7 +2,8 @@ use std::alloc::{AllocError, AllocFailed};
 use std::error::Error;
 use std::fmt;
 
-/// Memory could not be had. It is a variant of its own in every error and never stands for another cause.
+/// Memory could not be had. It is a variant of its own in every error and never stands for another
+/// cause.
 #[derive(Clone, Copy, Debug, PartialEq, Eq)]
 pub struct OutOfMemory;
 

@@ -8,7 +8,8 @@ pub block-requires : goal.block-requires
 block-requires g c = c.in-Some.ensures.found.power_is.1
 
 pub returns-in-None-clause-text : goal.returns-in-None-clause-text
-returns-in-None-clause-text g c = outputs_done _ _ _ _ _ _ _ _ refl (refusal_output c.args.input.now c.in-None.ensures.none)
+returns-in-None-clause-text g c =
+    outputs_done _ _ _ _ _ _ _ _ refl (refusal_output c.args.input.now c.in-None.ensures.none)
     c.finish.ensures.done
 
 pub returns-in-None-clause-part : goal.returns-in-None-clause-part

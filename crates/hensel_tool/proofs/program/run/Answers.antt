@@ -1,9 +1,11 @@
-use Rattle.std.proofs.Common.{refl, sym, ◌∙◌, inl, lit<, ◌≡◌, ◌≢◌, ◌<◌, ◌≤◌, ℕ, List, length, subst, arith, map, string_bytes}
+use Rattle.std.proofs.Common.{refl, sym, ◌∙◌, inl, lit<, ◌≡◌, ◌≢◌, ◌<◌, ◌≤◌, ℕ, List, length, subst, arith, map}
+use Rattle.std.proofs.Common.{string_bytes}
 use mathlib.Core.Bool.{true≢false}
 use Rattle.std.specs.declared.alloc.Global.{Global}
 use Rattle.hensel_tool.specs.Output.{factor_words, usage_line, not_built}
 use Rattle.hensel_tool.specs.Calls.{IsLeft, Outputs, OutputsPart}
-use Rattle.hensel_tool.proofs.Outputs.{usage_output, long_output, outputs_done, outputs_part, outputs_nothing, some_input}
+use Rattle.hensel_tool.proofs.Outputs.{usage_output, long_output, outputs_done, outputs_part, outputs_nothing}
+use Rattle.hensel_tool.proofs.Outputs.{some_input}
 use Rattle.hensel_tool.proofs.Outputs.{told_outputs, status_is, complete_of}
 use Rattle.hensel_tool.proofs.Inputs.{whole_input, long_input}
 use Rattle.hensel_tool.proofs.program.run.Given as Given
@@ -14,7 +16,8 @@ returns-then-not-are_factor-clause-text g c = λ low.
     let other : map (string_bytes {Z = Global}) c.args.words.now ≢ factor_words =
     λ e. true≢false (sym (c.are_factor.ensures.1 e) ∙ c.if-not-are_factor.true) in
     let input = some_input (g.S.Source.left c.args.source.now) in
-    outputs_done _ _ _ _ input.0 usage_line 2 _ input.1 (usage_output _ input.0 other) c.finish.ensures.done (omega arith)
+    outputs_done _ _ _ _ input.0 usage_line 2 _ input.1 (usage_output _ input.0 other) c.finish.ensures.done
+    (omega arith)
 
 pub returns-then-not-are_factor-clause-part : goal.returns-then-not-are_factor-clause-part
 returns-then-not-are_factor-clause-part g c =
@@ -63,7 +66,8 @@ returns-in-Whole-clause-complete g c = λ input text status known output no_sour
     (whole_input c.in-Ok.lines c.read_all.new.lines left (g.S.Source.left c.read_all.new.source) c.in-Ok.ensures.pulled
     c.read_all.ensures.bytes (c.in-Whole.ensures.whole refl)) in
     complete_of r status c.answer.ensures.end (λ four. no_sink (c.answer.ensures.write_fault four))
-    (λ low. status_is (map (string_bytes {Z = Global}) c.args.words.now) left written written' input text status r known output
+    (λ low. status_is (map (string_bytes {Z = Global}) c.args.words.now) left written written' input text status r
+    known output
     (subst (λ (words : List (List ℕ)). Outputs words left written written' r) (sym taken)
     (told_outputs factor_words left written written' c.bytes.result.now r read (c.answer.ensures.text low))))
 
@@ -82,7 +86,8 @@ returns-in-TooLong-clause-part g c =
     c.in-Ok.ensures.pulled c.read_all.ensures.bytes full in
     λ stopped. subst (λ (words : List (List ℕ)). OutputsPart words left written written') (sym taken)
     (outputs_part factor_words left written written' input.0 not_built 1 c.finish-in-TooLong.result (lit< tt) input.1
-    (long_output input.0 (let long = input.2 in omega arith)) c.finish-in-TooLong.ensures.done c.finish-in-TooLong.ensures.failed
+    (long_output input.0 (let long = input.2 in omega arith)) c.finish-in-TooLong.ensures.done
+    c.finish-in-TooLong.ensures.failed
     stopped)
 
 pub returns-in-TooLong-clause-complete : goal.returns-in-TooLong-clause-complete
@@ -92,5 +97,6 @@ returns-in-TooLong-clause-complete g c = λ input text status known output no_so
     let written' = g.K.Sink.written c.finish-in-TooLong.new.sink in
     let r = c.finish-in-TooLong.result in
     let done = c.finish-in-TooLong.ensures.done (λ four. no_sink (c.finish-in-TooLong.ensures.write_fault four)) in
-    inl (status_is (map (string_bytes {Z = Global}) c.args.words.now) left written written' input text status r known output
+    inl (status_is (map (string_bytes {Z = Global}) c.args.words.now) left written written' input text status r
+    known output
     (long_outputs g c (let one = done.0 in omega arith)))

@@ -1,7 +1,8 @@
 use Rattle.std.proofs.Common.{arith}
 use Rattle.ports.proofs.LineLemmas.{text-other, text-last}
 use Rattle.ports.proofs.lines.text_end.Goals as goal
-use Rattle.ports.proofs.lines.text_end.Goals.{else-start-end-via-then-start-end+else-bytes-end-eq-RETURN, else-start-end-via-else-start-end}
+use Rattle.ports.proofs.lines.text_end.Goals.{else-start-end-via-then-start-end+else-bytes-end-eq-RETURN}
+use Rattle.ports.proofs.lines.text_end.Goals.{else-start-end-via-else-start-end}
 
 pub returns-then-bytes-end-eq-RETURN-clause-text :
     goal.returns-then-bytes-end-eq-RETURN-clause-text

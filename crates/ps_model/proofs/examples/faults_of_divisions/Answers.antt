@@ -14,7 +14,8 @@ use Rattle.ps_model.specs.SeriesRing.{ring, Poly}
 use Rattle.ps_model.specs.Value.{IsValue}
 use Rattle.ps_model.specs.Notation.{constant_term}
 use Rattle.ps_model.specs.Job.{series_ring, Fails, IsFault, DividesByY}
-use Rattle.ps_model.specs.Examples.{job, root, x, number, divided, added, one_over_x, one_over_two_plus_x, double_division}
+use Rattle.ps_model.specs.Examples.{job, root, x, number, divided, added, one_over_x, one_over_two_plus_x}
+use Rattle.ps_model.specs.Examples.{double_division}
 use Rattle.ps_model.proofs.Coefficients.{coefficient-polynomial}
 use Rattle.ps_model.proofs.Evaluated.{evaluated, only_value}
 use Rattle.ps_model.proofs.FaultOrder.{one_member, two_members, first_not_unit}

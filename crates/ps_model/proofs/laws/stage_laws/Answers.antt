@@ -1,5 +1,6 @@
 use Rattle.ps_model.specs.SeriesRing.{ring}
-use Rattle.ps_model.proofs.Stages.{stage, stage_back, left_factorable, left_list, product_from-truncated, prepared-same}
+use Rattle.ps_model.proofs.Stages.{stage, stage_back, left_factorable, left_list, product_from-truncated}
+use Rattle.ps_model.proofs.Stages.{prepared-same}
 use Rattle.ps_model.proofs.laws.stage_laws.Goals as goal
 
 pub returns : goal.returns

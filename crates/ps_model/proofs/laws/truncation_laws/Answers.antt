@@ -1,5 +1,6 @@
 use Rattle.ps_model.specs.SeriesRing.{ring, degree}
-use Rattle.ps_model.proofs.Truncations.{truncated-sum, truncated-product, truncated-truncated, homogeneous_part-product}
+use Rattle.ps_model.proofs.Truncations.{truncated-sum, truncated-product, truncated-truncated}
+use Rattle.ps_model.proofs.Truncations.{homogeneous_part-product}
 use Rattle.ps_model.proofs.Truncations.{same_truncation}
 use Rattle.ps_model.proofs.laws.truncation_laws.Goals as goal
 

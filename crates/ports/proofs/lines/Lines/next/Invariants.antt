@@ -9,7 +9,8 @@ invariant-loop-newline g l = record {
   keeps : KeepsLine l.initial.self l.self;
   ended : l.self.ended ≡ true → (l.initial.self.ended ≡ true) ⊎ AllTaken (g.S.Source.left l.source);
   stays : l.initial.self.ended ≡ true → l.self.ended ≡ true;
-  unmoved : HoldsLine l.initial.self ⊎ (l.initial.self.ended ≡ true) → (l.source ≡ l.initial.source) × (l.self.pulled ≡ l.initial.self.pulled);
+  unmoved : HoldsLine l.initial.self ⊎ (l.initial.self.ended ≡ true) →
+      (l.source ≡ l.initial.source) × (l.self.pulled ≡ l.initial.self.pulled);
   faults : g.S.Source.faults l.initial.source ≤ g.S.Source.faults l.source;
 }
 

@@ -1,0 +1,13 @@
+pub mod Totals
+pub mod Ordered
+pub mod Filled
+pub mod Finished
+pub mod Collected
+pub mod Gained
+pub mod Again
+pub mod Built
+pub mod Choices
+pub mod Singles
+pub mod Found
+pub mod Rows
+pub mod Products

@@ -1,0 +1,31 @@
+//! Homogeneous parts of polynomials in up to eight variables, and sums of their products.
+#![tactic(auto)]
+
+// what a part is made of: a ring, terms with their monomials, the part
+mod homogeneous;
+mod rings;
+mod terms;
+
+// how many monomials there are
+mod counting;
+
+// sums, multiples and products
+mod arithmetic;
+mod dense;
+mod merging;
+mod sparse;
+mod sums;
+
+// the cells in which products are added up
+mod cells;
+mod places;
+
+pub use arithmetic::{product, scaled, sum};
+pub use counting::{monomials, permitted};
+pub use homogeneous::Part;
+pub use rings::Ring;
+pub use sums::Accumulator;
+pub use terms::{Monomial, Term};
+
+#[cfg(test)]
+mod tests;

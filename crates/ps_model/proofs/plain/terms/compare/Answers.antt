@@ -1,0 +1,10 @@
+-- proofs/plain/terms/compare/Answers.antt
+use Rattle.std.proofs.Common.{◌≡◌, ◌∙◌, length, arith}
+use Rattle.std.specs.Ordering.{ordering_then}
+use Rattle.ps_model.proofs.PlainOrder.{order_is}
+use Rattle.ps_model.proofs.plain.terms.compare.Goals as goal
+
+pub returns : goal.returns
+returns c = let p : length c.args.a.now.powers ≡ 8 = omega arith in
+    let q : length c.args.b.now.powers ≡ 8 = omega arith in
+    c.then.ensures ∙ (λ i. ordering_then (c.cmp.ensures i) (c.cmp-2.ensures i)) ∙ order_is c.args.a.now c.args.b.now p q

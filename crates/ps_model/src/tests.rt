@@ -1,0 +1,87 @@
+//! The plain functions on a few small polynomials.
+ghost use Rattle.std.specs.Prelude.{◌≤◌, IfOk};
+ghost use Rattle.ps_model.specs.PlainPolynomial.{HasKeysWithin, HasValuesBelow, small_key};
+
+use crate::{
+    Expr, JobData, OutOfMemory, PlainPoly, PlainTerm, Root, plain_cut, plain_is_factors,
+    plain_product, plain_sum,
+};
+use sqlite_items::Items;
+use std::alloc::Global;
+
+/// A polynomial of small terms, each a power of the first variable, one of Y and a coefficient:
+/// powers from 4 on count as 3, and coefficients are taken modulo 101.
+fn poly(alloc: Global, terms: &[(u16, u32, u64)]) -> Result<PlainPoly, OutOfMemory>
+    ensures within { IfOk result (λ p. HasKeysWithin small_key p) }
+    ensures residues { IfOk result (λ p. HasValuesBelow 101 p) }
+{
+    let mut p = PlainPoly::new(alloc);
+    for &(x, y, coefficient) in terms {
+        let x = x.min(3);
+        p.put(PlainTerm {
+            powers: [x, 0, 0, 0, 0, 0, 0, 0],
+            y: y.min(3),
+            coefficient: coefficient % 101,
+        })?;
+    }
+    Ok(p)
+}
+
+/// The terms of a polynomial in the form that `poly` takes.
+fn listed(alloc: Global, p: &PlainPoly) -> Result<Vec<(u16, u32, u64)>, OutOfMemory> {
+    let mut terms = Vec::new(alloc);
+    for t in p.terms() {
+        terms.push((t.powers[0], t.y, t.coefficient))?;
+    }
+    Ok(terms)
+}
+
+#[test]
+fn plain_arithmetic(rt: HostRuntime) -> Result<(), OutOfMemory> {
+    let alloc = rt.alloc();
+    let x = poly(alloc, &[(1, 0, 1)])?;
+    let twice = poly(alloc, &[(1, 0, 2)])?;
+    let thrice = poly(alloc, &[(1, 0, 3)])?;
+    let both = poly(alloc, &[(2, 0, 1), (1, 0, 1)])?;
+    let none = plain_product(alloc, 6, &twice, &thrice)?;
+    assert_eq!(rt; none.terms().len(), 0);
+    let sum = plain_sum(alloc, 6, &none, &x)?;
+    assert_eq!(rt; listed(alloc, &sum)?.as_slice(), [(1, 0, 1)].as_slice());
+    let cut = plain_cut(alloc, &both, 1)?;
+    assert_eq!(rt; listed(alloc, &cut)?.as_slice(), [(1, 0, 1)].as_slice());
+    Ok(())
+}
+
+/// Whether Y + first and Y + second are the factors of Y^2 + x * Y + 1 modulo 101 at the origin,
+/// where the roots are 10 and 91.
+fn are_factors(alloc: Global, first: u64, second: u64) -> Result<bool, OutOfMemory> {
+    let roots = [
+        Root {
+            value: 10,
+            times: 1,
+        },
+        Root {
+            value: 91,
+            times: 1,
+        },
+    ];
+    let job = JobData {
+        modulus: 101,
+        n: 1,
+        expr: Expr::Number(0),
+        roots: Items::from_slice(alloc, &roots)?,
+    };
+    let input = poly(alloc, &[(0, 2, 1), (1, 1, 1), (0, 0, 1)])?;
+    let f = poly(alloc, &[(0, 1, 1), (0, 0, first)])?;
+    let g = poly(alloc, &[(0, 1, 1), (0, 0, second)])?;
+    let fs = [f, g];
+    plain_is_factors(alloc, &job, &input, 0, &fs)
+}
+
+#[test]
+fn plain_factors(rt: HostRuntime) -> Result<(), OutOfMemory> {
+    let alloc = rt.alloc();
+    assert!(rt; are_factors(alloc, 91, 10)?);
+    assert!(rt; !are_factors(alloc, 10, 91)?);
+    Ok(())
+}
