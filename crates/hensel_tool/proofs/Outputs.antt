@@ -1,18 +1,16 @@
 -- What the program's parts give: the one output, and what was written of it.
 use Rattle.std.proofs.Common.{◌≡◌, ◌≢◌, ℕ, ◌<◌, List, [], length, refl, sym, ◌∙◌, ap, subst}
 use Rattle.std.proofs.Common.{arith, Option, Some, None, ◌⊎◌, inl, inr}
-use Rattle.std.proofs.lemmas.Option.{none-some}
 use Rattle.std.proofs.lemmas.Bool.Decides.{eqb_tells}
 use Rattle.std.proofs.lemmas.List.{append-nil}
 use Rattle.ports.specs.Bytes.{WritesAll, WritesPart}
-use Rattle.hensel_tool.specs.Plain.{Plain, IsPlain}
-use Rattle.hensel_tool.specs.PlainReading.{plain_of}
-use Rattle.hensel_tool.specs.PlainText.{plain_text}
-use Rattle.hensel_tool.specs.Block.{IsBlock}
-use Rattle.hensel_tool.specs.Output.{factor_words, not_built, usage_line, IsOutput}
+use Rattle.ps_model.specs.Job.{Fault, IsFirstFault, IsValidJob}
+use Rattle.hensel_tool.specs.Plain.{Plain, IsPlain, plain_job}
+use Rattle.hensel_tool.specs.FaultText.{refusal}
+use Rattle.hensel_tool.specs.Output.{factor_words, not_built, usage_line, IsRequestText, IsOutput}
 use Rattle.hensel_tool.specs.Calls.{IsLeft, IsKnown, WritesBeginning, Outputs, OutputsPart}
-use Rattle.hensel_tool.proofs.PlainFactors.{plain_block}
-use Rattle.hensel_tool.proofs.PlainReadings.{plain_of_is, plain_of_same}
+use Rattle.hensel_tool.proofs.PlainReadings.{only_one}
+use Rattle.hensel_tool.proofs.Decided.{some_reading, some_answer}
 
 -- refused words have the usage line
 pub usage_output : (words : List (List ℕ)) (input : List ℕ) → words ≢ factor_words → IsOutput words input usage_line 2
@@ -21,46 +19,76 @@ usage_output words input other = inl (record { refused = other; text_is = refl; 
 -- an input that isn't of the form is refused
 pub refusal_output : (input : List ℕ) → ((s : Plain) → IsPlain input s → ⊥) → IsOutput factor_words input not_built 1
 refusal_output input other =
-    inr (inr (record { taken = refl; other = other; text_is = refl; status_is = refl }))
+    inr (inr (inr (record { taken = refl; other = other; text_is = refl; status_is = refl })))
 
 -- so is one that is longer than any script of the form
 pub long_output : (input : List ℕ) → 65536 < length input → IsOutput factor_words input not_built 1
-long_output input long = refusal_output input (λ s is. let short = is.short in absurd (omega arith))
+long_output input long = refusal_output input (λ s is. let short = is.written.short in absurd (omega arith))
 
--- an input of the form has its block
-pub answer_output : (input : List ℕ) (s : Plain) (text : List ℕ) → IsPlain input s → IsBlock s text
-    → IsOutput factor_words input text 0
-answer_output input s text plain block =
-    inr (inl (record { taken = refl; script = s; plain = plain; block = block; status_is = refl }))
+-- a script whose job is valid has its request's block
+pub answer_output : (input : List ℕ) (s : Plain) (text : List ℕ) → IsPlain input s → IsValidJob (plain_job s)
+    → IsRequestText s s.request text → IsOutput factor_words input text 0
+answer_output input s text plain valid is =
+    inr (inl (record { taken = refl; script = s; plain = plain; valid = valid; text_is = is; status_is = refl }))
+
+-- one whose job has a fault is refused with the first
+pub fault_output : (input : List ℕ) (s : Plain) (f : Fault) → IsPlain input s → IsFirstFault (plain_job s) f
+    → IsOutput factor_words input (refusal 4 f) 1
+fault_output input s f plain first = inr (inr (inl (record {
+  taken = refl;
+  script = s;
+  plain = plain;
+  fault = f;
+  first = first;
+  text_is = refl;
+  status_is = refl;
+})))
 
 -- each input has an output
 pub some_output : (input : List ℕ) → (text : List ℕ) × (status : ℕ) × IsOutput factor_words input text status
-some_output input = by_reading (plain_of input) refl
+some_output input = elim (some_reading input) [
+  | inr other ↦ (not_built, 1, refusal_output input other)
+  | inl read ↦ of_script read.0 read.1 (some_answer input read.0 read.1)
+]
   where
-    by_reading : (o : Option Plain) → plain_of input ≡ o
+    of_script : (s : Plain) → IsPlain input s
+        → ((f : Fault) × IsFirstFault (plain_job s) f)
+        ⊎ (IsValidJob (plain_job s) × (text : List ℕ) × IsRequestText s s.request text)
         → (text : List ℕ) × (status : ℕ) × IsOutput factor_words input text status
-    by_reading None read =
-        (not_built, 1, refusal_output input (λ s is. none-some s (sym read ∙ plain_of_same input s is)))
-    by_reading (Some s) read =
-        let plain = plain_of_is input s read in (
-          plain_text s,
-          0,
-          answer_output input s (plain_text s) plain
-              (plain_block s (plain_text s) plain.power_is.1 refl),
-        )
+    of_script s plain (inl fault) = (refusal 4 fault.0, 1, fault_output input s fault.0 plain fault.1)
+    of_script s plain (inr answer) = (answer.1, 0, answer_output input s answer.1 plain answer.0 answer.2)
+
+-- a valid job has no fault
+valid_not_faulty : (input : List ℕ) (s t : Plain) (f : Fault) → IsPlain input s → IsPlain input t
+    → IsValidJob (plain_job s) → IsFirstFault (plain_job t) f → ⊥
+valid_not_faulty input s t f a b valid first =
+    subst (λ (r : Plain). IsValidJob (plain_job r)) (only_one input s t a.written b.written) valid f first.holds
 
 -- the words and the input have one status
 pub status_once : (words : List (List ℕ)) (input text text' : List ℕ) (status status' : ℕ)
     → IsOutput words input text status → IsOutput words input text' status' → status ≡ status'
 status_once words input text text' status status' (inl a) (inl b) = a.status_is ∙ sym b.status_is
 status_once words input text text' status status' (inl a) (inr (inl b)) = absurd (a.refused b.taken)
-status_once words input text text' status status' (inl a) (inr (inr b)) = absurd (a.refused b.taken)
+status_once words input text text' status status' (inl a) (inr (inr (inl b))) = absurd (a.refused b.taken)
+status_once words input text text' status status' (inl a) (inr (inr (inr b))) = absurd (a.refused b.taken)
 status_once words input text text' status status' (inr (inl a)) (inl b) = absurd (b.refused a.taken)
 status_once words input text text' status status' (inr (inl a)) (inr (inl b)) = a.status_is ∙ sym b.status_is
-status_once words input text text' status status' (inr (inl a)) (inr (inr b)) = absurd (b.other a.script a.plain)
-status_once words input text text' status status' (inr (inr a)) (inl b) = absurd (b.refused a.taken)
-status_once words input text text' status status' (inr (inr a)) (inr (inl b)) = absurd (a.other b.script b.plain)
-status_once words input text text' status status' (inr (inr a)) (inr (inr b)) = a.status_is ∙ sym b.status_is
+status_once words input text text' status status' (inr (inl a)) (inr (inr (inl b))) =
+    absurd (valid_not_faulty input a.script b.script b.fault a.plain b.plain a.valid b.first)
+status_once words input text text' status status' (inr (inl a)) (inr (inr (inr b))) = absurd (b.other a.script a.plain)
+status_once words input text text' status status' (inr (inr (inl a))) (inl b) = absurd (b.refused a.taken)
+status_once words input text text' status status' (inr (inr (inl a))) (inr (inl b)) =
+    absurd (valid_not_faulty input b.script a.script a.fault b.plain a.plain b.valid a.first)
+status_once words input text text' status status' (inr (inr (inl a))) (inr (inr (inl b))) =
+    a.status_is ∙ sym b.status_is
+status_once words input text text' status status' (inr (inr (inl a))) (inr (inr (inr b))) =
+    absurd (b.other a.script a.plain)
+status_once words input text text' status status' (inr (inr (inr a))) (inl b) = absurd (b.refused a.taken)
+status_once words input text text' status status' (inr (inr (inr a))) (inr (inl b)) = absurd (a.other b.script b.plain)
+status_once words input text text' status status' (inr (inr (inr a))) (inr (inr (inl b))) =
+    absurd (a.other b.script b.plain)
+status_once words input text text' status status' (inr (inr (inr a))) (inr (inr (inr b))) =
+    a.status_is ∙ sym b.status_is
 
 -- the same text and status for refused words, whatever the input
 pub status_refused : (words : List (List ℕ)) (input input' text text' : List ℕ) (status status' : ℕ) →
@@ -68,9 +96,11 @@ pub status_refused : (words : List (List ℕ)) (input input' text text' : List �
     → IsOutput words input text status → IsOutput words input' text' status' → status ≡ status'
 status_refused words input input' text text' status status' other (inl a) (inl b) = a.status_is ∙ sym b.status_is
 status_refused words input input' text text' status status' other (inl a) (inr (inl b)) = absurd (other b.taken)
-status_refused words input input' text text' status status' other (inl a) (inr (inr b)) = absurd (other b.taken)
+status_refused words input input' text text' status status' other (inl a) (inr (inr (inl b))) = absurd (other b.taken)
+status_refused words input input' text text' status status' other (inl a) (inr (inr (inr b))) = absurd (other b.taken)
 status_refused words input input' text text' status status' other (inr (inl a)) b = absurd (other a.taken)
-status_refused words input input' text text' status status' other (inr (inr a)) b = absurd (other a.taken)
+status_refused words input input' text text' status status' other (inr (inr (inl a))) b = absurd (other a.taken)
+status_refused words input input' text text' status status' other (inr (inr (inr a))) b = absurd (other a.taken)
 
 -- what was written
 pub beginning_of_part : (w w' : Option (List ℕ)) (text : List ℕ) → WritesPart w w' text → WritesBeginning w w' text

@@ -1,92 +1,135 @@
--- The factors of a plain script's job, and the text of their block.
-use Rattle.std.proofs.Common.{◌≡◌, ℕ, zero, suc, ◌-◌, ◌≤◌, List, [], ◌∷◌, ◌++◌, lit<, refl, sym, ◌∙◌, ap, arith}
-use Rattle.std.specs.Prelude.{codes, decimal}
-use Rattle.std.proofs.lemmas.Fmt.{decimal_digit}
-use Rattle.std.proofs.lemmas.List.{append-nil}
-use Rattle.ps_model.specs.declared.expr.Expr.TheBlock.{hidden-the_row-Summand-0, shape-the_row-Summand-0}
-use Rattle.ps_model.specs.declared.expr.Expr.TheBlock.{hidden-the_row-Expr-2}
-use denote.Hole.Carrier.{hidden}
+-- The one factor of a valid plain job is the value of its tree.
+use Rattle.std.proofs.Common.{◌≡◌, ℕ, zero, suc, ◌-◌, ◌%◌, ◌<◌, ◌≤◌, true, false, [], ◌∷◌, refl, sym, ◌∙◌}
+use Rattle.std.proofs.Common.{ap, subst, arith}
+use Rattle.std.specs.Prelude.{◌==◌}
+use Rattle.std.proofs.lemmas.Bool.{eqb-true, eqb-false}
+use Rattle.ps_model.specs.declared.job.JobData.{JobData}
+use Rattle.ps_model.specs.declared.job.Root.{Root}
+use Rattle.ps_model.specs.Ring.{Ring}
 use Rattle.ps_model.specs.Keys.{y_key}
-use Rattle.ps_model.specs.Polynomial.{zero as nought, monomial, sum, power}
+use Rattle.ps_model.specs.Polynomial.{Polynomial, coefficient}
 use Rattle.ps_model.specs.Truncation.{truncated}
 use Rattle.ps_model.specs.SeriesRing.{SeriesRing, ring, degree, Poly}
-use Rattle.ps_model.specs.Value.{variable_key, IsValue}
-use Rattle.ps_model.specs.Job.{series_ring, job_ring, IsFactors}
-use Rattle.ps_model.specs.BlockText.{newline, power_lines, block_text}
+use Rattle.ps_model.specs.Bounds.{IsMonic}
+use Rattle.ps_model.specs.Factors.{root_power, total_times}
+use Rattle.ps_model.specs.Tree.{formal_degree}
+use Rattle.ps_model.specs.Value.{HasLead}
+use Rattle.ps_model.specs.Job.{job_ring, NotMonic, DegreeMismatch, RootsMismatch, IsValidJob, DifferAt}
+use Rattle.ps_model.specs.Job.{IsFactors, told_count}
+use Rattle.ps_model.proofs.Coefficients.{same_coefficients}
+use Rattle.ps_model.proofs.RingLaws.{one-product, product-one}
+use Rattle.ps_model.proofs.Truncations.{truncated-zero}
+use Rattle.ps_model.proofs.Homogeneous.{homogeneous-power}
+use Rattle.ps_model.proofs.ShiftDegrees.{homogeneous-linear}
+use Rattle.ps_model.proofs.Origin.{key_is-y, coefficient-above}
+use Rattle.ps_model.proofs.Monic.{monic-truncated}
+use Rattle.ps_model.proofs.Factors.{truncated-again, truncated-lower}
 use Rattle.hensel_tool.specs.Plain.{Plain, plain_tree, plain_job}
-use Rattle.hensel_tool.specs.Block.{IsBlock}
-use Rattle.hensel_tool.specs.PlainText.{zero_lines, last_coefficient, plain_text}
-use Rattle.hensel_tool.proofs.PlainSeries.{plain_factor, plain_product, is_factor}
-use Rattle.hensel_tool.proofs.PlainBlock.{factor_lines, regroup}
+use Rattle.hensel_tool.specs.PlainValue.{plain_polynomial, plain_value}
+use Rattle.hensel_tool.proofs.PlainMeaning.{AreTerms, plain_is_value}
+use Rattle.hensel_tool.proofs.PlainLeads.{plain_top}
 
--- the value of the tree is the sum of the power's and the variable's
-tree_value : (S : SeriesRing) (D e : ℕ) (p : Poly S) → p ≡ sum (ring S)
-    (truncated (ring S) (degree S) D
-    (power (ring S) (truncated (ring S) (degree S) D (monomial (ring S) 1 (y_key S.variables 1))) e))
-    (sum (ring S) (truncated (ring S) (degree S) D (monomial (ring S) 1 (variable_key S.variables 0)))
-    (nought (ring S)))
-    → IsValue S D (plain_tree e) p
-unfolding hidden-the_row-Summand-0 shape-the_row-Summand-0 hidden-the_row-Expr-2 hidden
-tree_value S D e p is = (_, _, (_, refl, refl), (_, _, refl, refl, refl), is)
+-- numbers that can't differ are equal
+pub number_stable : (a b : ℕ) → ((a ≡ b → ⊥) → ⊥) → a ≡ b
+number_stable a b h = elim (a == b) as (λ r. (a == b) ≡ r → a ≡ b) [
+  | true ↦ λ e. eqb-true a b e
+  | false ↦ λ e. absurd (h (eqb-false a b e))
+] refl
 
--- the one factor of a plain script's job
-abbrev pub factor_of : (s : Plain) → Poly (job_ring (plain_job s))
-factor_of s = plain_factor (ring (job_ring (plain_job s))) s.power (variable_key (job_ring (plain_job s)).variables 0)
-    s.precision
+module _ (R : Ring) where
+  -- and so are polynomials
+  pub polynomial_stable : (p q : Polynomial R) → ((p ≡ q → ⊥) → ⊥) → p ≡ q
+  polynomial_stable p q h = same_coefficients R p q
+      (λ k. number_stable _ _ (λ ne. h (λ e. ne (ap (λ r. coefficient R r k) e))))
 
--- it is the job's list of factors
-are_factors : (s : Plain) → 1 ≤ s.power → IsFactors (plain_job s) s.precision (factor_of s ∷ [])
-unfolding series_ring
-are_factors s some = record {
-  value = _;
-  is_value = tree_value (job_ring (plain_job s)) s.precision s.power _
-      (plain_product (ring (job_ring (plain_job s))) s.power _ s.precision);
-  are_factors = record {
-    each = (is_factor (ring (job_ring (plain_job s))) s.power _ refl refl some s.precision _ refl refl, tt);
-    product_is = refl;
-  };
-}
+  -- polynomials of degree 0 are equal where they have the same coefficients at the powers of Y
+  pub same_at_origin : (p q : Polynomial R) → truncated R R.degree 0 p ≡ p → truncated R R.degree 0 q ≡ q
+      → ((j : ℕ) → coefficient R p (R.y j) ≡ coefficient R q (R.y j)) → p ≡ q
+  same_at_origin p q hp hq same = same_coefficients R p q
+      (λ k. elim (R.degree k == 0) as (λ b. (R.degree k == 0) ≡ b → coefficient R p k ≡ coefficient R q k) [
+        | true ↦ λ e. ap (coefficient R p) (key_is-y R k (eqb-true _ _ e)) ∙ same (R.y_degree k)
+            ∙ sym (ap (coefficient R q) (key_is-y R k (eqb-true _ _ e)))
+        | false ↦ λ e. coefficient-above R R.degree 0 p hp k (positive _ (eqb-false _ _ e))
+            ∙ sym (coefficient-above R R.degree 0 q hq k (positive _ (eqb-false _ _ e)))
+      ] refl)
+    where
+      positive : (n : ℕ) → (n ≡ 0 → ⊥) → 0 < n
+      positive n h = omega arith
 
--- the lines of the factor
-lines : (m : ℕ) (name : List ℕ) (j D : ℕ)
-    → power_lines (series_ring m) (name ∷ []) D (plain_factor (ring (series_ring m)) (suc j)
-    (variable_key (series_ring m).variables 0) D) (suc j)
-    ≡ codes "Y^" ++ decimal (suc j) ++ codes ": 1\n" ++ zero_lines j ++ codes "Y^0: " ++ last_coefficient D name
-    ++ codes "\n"
-unfolding series_ring
-lines m name j D = factor_lines (series_ring m) (suc j) (variable_key (series_ring m).variables 0) name refl refl
-    (omega arith) refl (append-nil (codes "*" ++ name)) j D refl
+  root_power_flat : (r : Root) → truncated R R.degree 0 (root_power {R = R} r) ≡ root_power {R = R} r
+  root_power_flat r = truncated-zero R R.degree _ ∙ homogeneous-power R R.degree R.degree_adds r.times _
+      (homogeneous-linear R (R.modulus - r.value))
 
--- the block of a factor whose lines are these
-block : (S : SeriesRing) (name : List ℕ) (D e : ℕ) (f : Poly S) (z l : List ℕ)
-    → power_lines S (name ∷ []) D f e ≡ codes "Y^" ++ decimal e ++ codes ": 1\n" ++ z ++ codes "Y^0: " ++ l
-    ++ codes "\n"
-    → block_text S (name ∷ []) (record { value = 0; times = e } ∷ []) (f ∷ []) D
-    ≡ codes "precision " ++ decimal D ++ codes "\nfactor 1 root 0 times " ++ decimal e ++ codes "\nY^" ++ decimal e
-    ++ codes ": 1\n" ++ z ++ codes "Y^0: " ++ l ++ codes "\n"
-block S name D e f z l is =
-    (λ i. codes "precision " ++ decimal D ++ newline ++ (codes "factor " ++ decimal_digit 1 (lit< tt) i
-    ++ codes " root " ++ decimal_digit 0 (lit< tt) i ++ codes " times " ++ decimal e ++ newline ++ is i ++ []))
-    ∙ regroup (codes "precision ") (decimal D) newline (codes "factor 1 root 0 times ") (decimal e) (codes "Y^")
-    (codes ": 1\n") z (codes "Y^0: ") l
+-- where a job has no fault, its formal degree is the sum of the multiplicities
+pub valid_degree : (job : JobData) → IsValidJob job → formal_degree job.expr ≡ total_times job.roots
+valid_degree job valid = number_stable _ _ (λ ne. valid
+    (DegreeMismatch (told_count (formal_degree job.expr)) (told_count (total_times job.roots))) (ne, refl, refl))
 
--- the block of a plain script's factor
-text : (m : ℕ) (name : List ℕ) (e D : ℕ) → 1 ≤ e
-    → block_text (series_ring m) (name ∷ []) (record { value = 0; times = e } ∷ []) (plain_factor
-    (ring (series_ring m)) e (variable_key (series_ring m).variables 0) D ∷ []) D
-    ≡ plain_text (record { modulus = m; name = name; power = e; precision = D })
-text m name zero D some = absurd (omega arith)
-text m name (suc j) D some = block (series_ring m) name D (suc j)
-    (plain_factor (ring (series_ring m)) (suc j) (variable_key (series_ring m).variables 0) D)
-    (zero_lines (suc j - 1)) (last_coefficient D name)
-    (lines m name j D
-    ∙ ap (λ k. codes "Y^" ++ decimal (suc j) ++ codes ": 1\n" ++ zero_lines k ++ codes "Y^0: "
-    ++ last_coefficient D name ++ codes "\n") (omega arith))
+at_least : (n k : ℕ) → (k < n → ⊥) → n ≤ k
+at_least n k h = omega arith
 
--- a plain script's job has factors, and their block is the plain text
-pub plain_block : (s : Plain) (written : List ℕ) → 1 ≤ s.power → written ≡ plain_text s → IsBlock s written
-plain_block s written some is = record {
-  factors = factor_of s ∷ [];
-  are_factors = are_factors s some;
-  is = is ∙ sym (text s.modulus s.name s.power s.precision some);
-}
+none_below : (job : JobData) → IsValidJob job → (n p : ℕ) → p < n → DifferAt job p → ⊥
+none_below job valid zero p lt differ = absurd (omega arith)
+none_below job valid (suc n) p lt (input, roots, at, ne) = valid (RootsMismatch p input roots)
+    (at, ((input, roots, at, ne), λ i other. at_least p i (λ below. none_below job valid n i (omega arith) other)))
+
+-- and the coefficients at the origin differ nowhere
+pub valid_agrees : (job : JobData) → IsValidJob job → (p : ℕ) → DifferAt job p → ⊥
+valid_agrees job valid p differ = none_below job valid (suc p) p (omega arith) differ
+
+module _ (s : Plain) (h : AreTerms s.terms) where
+  abbrev S : SeriesRing
+  S = job_ring (plain_job s)
+
+  abbrev whole : Poly S
+  whole = plain_polynomial S s.terms
+
+  abbrev root : Root
+  root = record { value = s.root % s.modulus; times = s.times }
+
+  -- at the origin the polynomial is the power of the root
+  pub plain_at_origin : ((p : ℕ) → DifferAt (plain_job s) p → ⊥) → truncated (ring S) (degree S) 0 whole
+      ≡ root_power {R = ring S} root
+  plain_at_origin agree = same_at_origin (ring S) _ _ (truncated-again (ring S) (degree S) 0 whole)
+      (root_power_flat (ring S) root)
+      (λ j. number_stable _ _ (λ ne. agree j
+      (_, _, (truncated (ring S) (degree S) 0 whole, plain_is_value S 0 s.terms h, refl, refl), ne))
+      ∙ ap (λ p. coefficient (ring S) p (y_key S.variables j)) (product-one (ring S) _))
+
+  -- the value of the tree is the job's one factor, where the polynomial is monic and the root is its root
+  pub monic_factors : IsMonic s.times whole → ((p : ℕ) → DifferAt (plain_job s) p → ⊥) → (D : ℕ)
+      → IsFactors (plain_job s) D (plain_value s D ∷ [])
+  monic_factors monic agree D = record {
+    value = plain_value s D;
+    is_value = plain_is_value S D s.terms h;
+    are_factors = record {
+      each = (
+        record {
+          monic = monic-truncated (ring S) D s.times whole monic;
+          at_origin = truncated-lower (ring S) (degree S) 0 D whole (omega arith) ∙ plain_at_origin agree;
+          within = truncated-again (ring S) (degree S) D whole;
+        },
+        tt,
+      );
+      product_is = ap (truncated (ring S) (degree S) D) (one-product (ring S) _ ∙ product-one (ring S) _)
+          ∙ truncated-again (ring S) (degree S) D whole;
+    };
+  }
+
+  -- a leading number 1 makes the polynomial monic
+  pub lead_monic : HasLead S (plain_tree s.terms) 1 → formal_degree (plain_tree s.terms) ≡ s.times
+      → IsMonic s.times whole
+  lead_monic lead same = subst (λ d. IsMonic d whole) same (plain_top S s.terms 1 h lead)
+
+  pub lead_factors : HasLead S (plain_tree s.terms) 1 → formal_degree (plain_tree s.terms) ≡ s.times
+      → ((p : ℕ) → DifferAt (plain_job s) p → ⊥) → (D : ℕ) → IsFactors (plain_job s) D (plain_value s D ∷ [])
+  lead_factors lead same agree D = monic_factors (lead_monic lead same) agree D
+
+  -- the polynomial of a valid job is monic
+  pub valid_monic : IsValidJob (plain_job s) → IsMonic s.times whole
+  valid_monic valid = polynomial_stable (ring S) _ _
+      (λ ne. valid NotMonic (λ lead. ne (lead_monic lead (valid_degree (plain_job s) valid ∙ omega arith))))
+
+  -- the factors of a valid job
+  pub valid_factors : IsValidJob (plain_job s) → (D : ℕ) → IsFactors (plain_job s) D (plain_value s D ∷ [])
+  valid_factors valid D = monic_factors (valid_monic valid) (valid_agrees (plain_job s) valid) D

@@ -1,12 +1,13 @@
 -- The text of a plain script's block.
---     IsBlock s text      the text is the block of the list of factors of the script's job, up to its precision
+--     IsBlock s D text      the text is the block of the list of factors of the script's job, up to
+--         the precision D
 use Rattle.std.specs.Prelude.{◌≡◌, ℕ, List, [], ◌∷◌}
 use Rattle.ps_model.specs.SeriesRing.{Poly}
 use Rattle.ps_model.specs.Job.{job_ring, IsFactors}
 use Rattle.ps_model.specs.BlockText.{block_text}
 use Rattle.hensel_tool.specs.Plain.{Plain, plain_job}
 
-pub record IsBlock (s : Plain) (text : List ℕ) : Type 0 where
+pub record IsBlock (s : Plain) (D : ℕ) (text : List ℕ) : Type 0 where
   pub factors : List (Poly (job_ring (plain_job s)))
-  pub are_factors : IsFactors (plain_job s) s.precision factors
-  pub is : text ≡ block_text (job_ring (plain_job s)) (s.name ∷ []) (plain_job s).roots factors s.precision
+  pub are_factors : IsFactors (plain_job s) D factors
+  pub is : text ≡ block_text (job_ring (plain_job s)) (s.name ∷ []) (plain_job s).roots factors D

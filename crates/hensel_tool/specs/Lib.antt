@@ -1,8 +1,15 @@
 pub mod Numbers
 pub mod Plain
-pub mod PlainReading
+pub mod PlainValue
 pub mod PlainView
-pub mod PlainText
 pub mod Block
+pub mod FaultText
+pub mod PlainFaultView
 pub mod Output
 pub mod Calls
+pub mod Measures
+pub mod Origin
+pub mod Form
+pub mod PlainReading
+pub mod ReadingView
+pub mod Rows

@@ -2,14 +2,20 @@
 --     factor_words      the one list of words that is taken: `factor`
 --     usage_line, not_built      the line for refused words, and that for a script that isn't of a
 --         form that is built
+--     IsRequestText s text      the block of the script's request; nothing where it makes none
 --     IsUsage words text status      the words are refused: the usage line and 2
---     IsAnswer words input text status      the script is of the plain form: its block and 0
---     IsRefusal words input text status      it isn't: that line and 1
---     IsOutput words input text status      one of the three; the input counts only where the words
+--     IsAnswer words input text status      the script is of the plain form and its job is valid:
+--         its request's block and 0
+--     IsFaulty words input text status      its job has a fault: the line that tells the first one,
+--         and 1
+--     IsRefusal words input text status      it isn't of the form: that line and 1
+--     IsOutput words input text status      one of the four; the input counts only where the words
 --         are taken
-use Rattle.std.specs.Prelude.{◌≡◌, ◌≢◌, ℕ, ◌⊎◌, List, [], ◌∷◌, codes}
-use Rattle.hensel_tool.specs.Plain.{Plain, IsPlain}
+use Rattle.std.specs.Prelude.{◌≡◌, ◌≢◌, ℕ, ◌⊎◌, List, [], ◌∷◌, codes, Option, Some, None}
+use Rattle.ps_model.specs.Job.{Fault, IsFirstFault, IsValidJob}
+use Rattle.hensel_tool.specs.Plain.{Plain, IsPlain, plain_job}
 use Rattle.hensel_tool.specs.Block.{IsBlock}
+use Rattle.hensel_tool.specs.FaultText.{refusal}
 
 abbrev pub factor_words : List (List ℕ)
 factor_words = codes "factor" ∷ []
@@ -20,6 +26,10 @@ usage_line = codes "usage: hensel_tool factor [--rounds N | --workers N] | expan
 abbrev pub not_built : List ℕ
 not_built = codes "refused end: not built yet\n"
 
+abbrev pub IsRequestText : Plain → Option ℕ → List ℕ → Type 0
+IsRequestText s None text = text ≡ []
+IsRequestText s (Some D) text = IsBlock s D text
+
 pub record IsUsage (words : List (List ℕ)) (text : List ℕ) (status : ℕ) : Type 0 where
   pub refused : words ≢ factor_words
   pub text_is : text ≡ usage_line
@@ -29,8 +39,19 @@ pub record IsAnswer (words : List (List ℕ)) (input text : List ℕ) (status : 
   pub taken : words ≡ factor_words
   pub script : Plain
   pub plain : IsPlain input script
-  pub block : IsBlock script text
+  pub valid : IsValidJob (plain_job script)
+  pub text_is : IsRequestText script script.request text
   pub status_is : status ≡ 0
+
+-- the roots, and so the job, are on line 4
+pub record IsFaulty (words : List (List ℕ)) (input text : List ℕ) (status : ℕ) : Type 0 where
+  pub taken : words ≡ factor_words
+  pub script : Plain
+  pub plain : IsPlain input script
+  pub fault : Fault
+  pub first : IsFirstFault (plain_job script) fault
+  pub text_is : text ≡ refusal 4 fault
+  pub status_is : status ≡ 1
 
 pub record IsRefusal (words : List (List ℕ)) (input text : List ℕ) (status : ℕ) : Type 0 where
   pub taken : words ≡ factor_words
@@ -39,5 +60,5 @@ pub record IsRefusal (words : List (List ℕ)) (input text : List ℕ) (status :
   pub status_is : status ≡ 1
 
 abbrev pub IsOutput : List (List ℕ) → List ℕ → List ℕ → ℕ → Type 0
-IsOutput words input text status =
-    IsUsage words text status ⊎ (IsAnswer words input text status ⊎ IsRefusal words input text status)
+IsOutput words input text status = IsUsage words text status
+    ⊎ (IsAnswer words input text status ⊎ (IsFaulty words input text status ⊎ IsRefusal words input text status))

@@ -1,47 +1,137 @@
--- The plain form of a script: five lines, of which the third is one power of Y plus the variable.
---     Plain      what such a script says: the modulus, the variable's name, the power of Y and the precision
+-- The plain form of a script: one variable, a sum of monomials, one root, and perhaps a request.
+--     Plain      what such a script says: the modulus, the variable's name, the terms of the
+--         polynomial, the root's number and its multiplicity, and the precision that is asked for
+--     factor_tree f, term_tree fs, plain_tree ts      the trees of a factor, of a product of them,
+--         and of a sum of these
+--     plain_job s      the script's job: its tree and its root, as a residue
 --     joined lines      each line and the newline behind it; nothing of none
---     IsPlain input s      the input is a script of the plain form and says s
---     plain_tree e      the tree of Y^e + NAME
---     plain_job s      the script's job: that tree, and the root 0 as often as the power says
-use Rattle.std.specs.Prelude.{◌≡◌, ℕ, ◌^◌, ◌<◌, ◌≤◌, true, false, List, [], ◌∷◌, ◌++◌, length, codes}
-use Rattle.std.specs.List.{flat_map}
-use Rattle.ps_model.specs.declared.expr.Expr.{Expr, Name, MainVariable, Sum, Power}
+--     joined_by mark texts      the texts with the mark between them
+--     IsFactorText name text f      the text is the factor: NUMBER, NAME, NAME^E, Y or Y^E
+--     IsTermText name text fs      the text is the term: factors joined by *
+--     IsSumText name text ts      the text is the sum: terms joined by a plus sign between blanks
+--     variable_power fs      the sum of the powers of the variable in a term
+--     IsWritten input s      the input has the lines of the plain form and says s
+--     IsSmall terms      no power of the variable is above 4095, the formal degree is at most 32,
+--         and the nodes are at most 4096
+--     IsPlain input s      the input is a script of the plain form and says s: both
+use Rattle.std.specs.Prelude.{◌≡◌, ◌≢◌, ℕ, ◌%◌, ◌^◌, ◌<◌, ◌≤◌, true, false, List, [], ◌∷◌, ◌++◌, length, codes, map}
+use Rattle.std.specs.Prelude.{sum_by}
+use Rattle.std.specs.Prelude.{Option, Some, None}
+use Rattle.std.specs.List.{flat_map, All}
+use Rattle.ps_model.specs.declared.expr.Expr.{Expr, Number, Name, MainVariable, Sum, Product, Power}
 use Rattle.ps_model.specs.declared.job.JobData.{JobData}
+use Rattle.ps_model.specs.Tree.{formal_degree, node_count}
+use Rattle.hensel_tool.specs.declared.script.PlainFactor.{PlainFactor}
+use Rattle.hensel_tool.specs.declared.script.PlainFactor.TheVariants as factor
 use Rattle.hensel_tool.specs.Numbers.{IsNumber, is_name}
 
 pub record Plain : Type 0 where
   pub modulus : ℕ
   pub name : List ℕ
-  pub power : ℕ
-  pub precision : ℕ
+  pub terms : List (List PlainFactor)
+  pub root : ℕ
+  pub times : ℕ
+  pub request : Option ℕ
 
-abbrev pub joined : List (List ℕ) → List ℕ
-joined lines = flat_map (λ line. line ++ 10 ∷ []) lines
+abbrev pub factor_tree : PlainFactor → Expr
+factor_tree (factor.Number c) = Number c
+factor_tree factor.Variable = Name 0
+factor_tree (factor.VariablePower e) = Power (Name 0) e
+factor_tree factor.Main = MainVariable
+factor_tree (factor.MainPower e) = Power MainVariable e
 
-pub record IsPlain (input : List ℕ) (s : Plain) : Type 0 where
-  -- the numbers as they are written
-  pub modulus : List ℕ
-  pub power : List ℕ
-  pub times : List ℕ
-  pub precision : List ℕ
-  pub text : input ≡ joined ((codes "mod " ++ modulus) ∷ (codes "vars " ++ s.name)
-      ∷ (codes "poly Y^" ++ power ++ codes " + " ++ s.name) ∷ (codes "roots 0:" ++ times)
-      ∷ (codes "show " ++ precision) ∷ [])
-  pub short : length input ≤ 65536
-  pub modulus_is : IsNumber modulus s.modulus × (2 ≤ s.modulus) × (s.modulus < 2 ^ 63)
-  pub name_is : is_name s.name ≡ true
-  pub power_is : IsNumber power s.power × (1 ≤ s.power) × (s.power ≤ 32)
-  pub times_is : IsNumber times s.power
-  pub precision_is : IsNumber precision s.precision × (s.precision ≤ 4095)
+abbrev pub term_tree : List PlainFactor → Expr
+term_tree (f ∷ []) = factor_tree f
+term_tree fs = Product (map (λ f. record { divide = false; of = factor_tree f }) fs)
 
-abbrev pub plain_tree : ℕ → Expr
-plain_tree e = Sum (record { minus = false; of = Power MainVariable e } ∷ record { minus = false; of = Name 0 } ∷ [])
+abbrev pub plain_tree : List (List PlainFactor) → Expr
+plain_tree (t ∷ []) = term_tree t
+plain_tree ts = Sum (map (λ t. record { minus = false; of = term_tree t }) ts)
 
 abbrev pub plain_job : Plain → JobData
 plain_job s = record {
   modulus = s.modulus;
   n = 1;
-  expr = plain_tree s.power;
-  roots = record { value = 0; times = s.power } ∷ [];
+  expr = plain_tree s.terms;
+  roots = record { value = s.root % s.modulus; times = s.times } ∷ [];
 }
+
+abbrev pub joined : List (List ℕ) → List ℕ
+joined lines = flat_map (λ line. line ++ 10 ∷ []) lines
+
+abbrev pub joined_by : List ℕ → List (List ℕ) → List ℕ
+joined_by mark [] = []
+joined_by mark (text ∷ []) = text
+joined_by mark (text ∷ other ∷ texts) = text ++ mark ++ joined_by mark (other ∷ texts)
+
+-- a fact of each pair of members of two lists of one length
+abbrev pub Each : {A B : Type 0} → (A → B → Type 0) → List A → List B → Type 0
+Each P [] [] = Unit {0}
+Each P [] (b ∷ bs) = ⊥
+Each P (a ∷ as') [] = ⊥
+Each P (a ∷ as') (b ∷ bs) = P a b × Each P as' bs
+
+-- an exponent as it is written
+abbrev pub IsExponent : List ℕ → ℕ → Type 0
+IsExponent digits e = IsNumber digits e × (e ≤ 255)
+
+abbrev pub IsFactorText : List ℕ → List ℕ → PlainFactor → Type 0
+IsFactorText name text (factor.Number c) = IsNumber text c × (c < 2 ^ 64)
+IsFactorText name text factor.Variable = text ≡ name
+IsFactorText name text (factor.VariablePower e) =
+    (digits : List ℕ) × (text ≡ name ++ codes "^" ++ digits) × IsExponent digits e
+IsFactorText name text factor.Main = text ≡ codes "Y"
+IsFactorText name text (factor.MainPower e) =
+    (digits : List ℕ) × (text ≡ codes "Y^" ++ digits) × IsExponent digits e
+
+abbrev pub IsTermText : List ℕ → List ℕ → List PlainFactor → Type 0
+IsTermText name text fs =
+    (fs ≢ []) × (texts : List (List ℕ)) × (text ≡ joined_by (codes "*") texts) × Each (IsFactorText name) texts fs
+
+abbrev pub IsSumText : List ℕ → List ℕ → List (List PlainFactor) → Type 0
+IsSumText name text ts =
+    (ts ≢ []) × (texts : List (List ℕ)) × (text ≡ joined_by (codes " + ") texts) × Each (IsTermText name) texts ts
+
+abbrev pub power_of_variable : PlainFactor → ℕ
+power_of_variable (factor.Number c) = 0
+power_of_variable factor.Variable = 1
+power_of_variable (factor.VariablePower e) = e
+power_of_variable factor.Main = 0
+power_of_variable (factor.MainPower e) = 0
+
+abbrev pub variable_power : List PlainFactor → ℕ
+variable_power fs = sum_by power_of_variable fs
+
+-- the line of the request, where there is one, and the precision that it asks for
+abbrev pub IsRequest : List (List ℕ) → Option ℕ → Type 0
+IsRequest lines None = lines ≡ []
+IsRequest lines (Some d) =
+    (digits : List ℕ) × (lines ≡ (codes "show " ++ digits) ∷ []) × IsNumber digits d × (d ≤ 4095)
+
+-- the lines of a script and what they say, whatever its degree and nodes
+pub record IsWritten (input : List ℕ) (s : Plain) : Type 0 where
+  -- the numbers, the polynomial and the request as they are written
+  pub modulus : List ℕ
+  pub polynomial : List ℕ
+  pub root : List ℕ
+  pub times : List ℕ
+  pub request : List (List ℕ)
+  pub text : input ≡ joined ((codes "mod " ++ modulus) ∷ (codes "vars " ++ s.name) ∷ (codes "poly " ++ polynomial)
+      ∷ (codes "roots " ++ root ++ codes ":" ++ times) ∷ request)
+  pub short : length input ≤ 65536
+  pub modulus_is : IsNumber modulus s.modulus × (2 ≤ s.modulus) × (s.modulus < 2 ^ 63)
+  pub name_is : is_name s.name ≡ true
+  pub polynomial_is : IsSumText s.name polynomial s.terms
+  pub root_is : IsNumber root s.root × (s.root < 2 ^ 64)
+  pub times_is : IsNumber times s.times × (1 ≤ s.times) × (s.times ≤ 32)
+  pub request_is : IsRequest request s.request
+
+-- the limits that a sum keeps
+pub record IsSmall (terms : List (List PlainFactor)) : Type 0 where
+  pub powers : All (λ t. variable_power t ≤ 4095) terms
+  pub degree : formal_degree (plain_tree terms) ≤ 32
+  pub nodes : node_count (plain_tree terms) ≤ 4096
+
+pub record IsPlain (input : List ℕ) (s : Plain) : Type 0 where
+  pub written : IsWritten input s
+  pub small : IsSmall s.terms

@@ -1,15 +1,25 @@
 -- How a script of the plain form is read: a function of the input's bytes.
 --     Gives view answer o      what a function answered, seen by view, is o
---     cut_at b bytes      what stands before the first byte b, and what behind it; None where there is none
---     strip text bytes      what stands behind the text, with which the bytes begin; None where they don't
+--     cut_at b bytes      what stands before the first byte b, and what behind it; None where there
+--         is none
+--     strip text bytes      what stands behind the text, with which the bytes begin; None where
+--         they don't
+--     is_byte b text      the text is the one byte b
 --     number_at_most limit text      the number that the whole text stands for, up to a limit
---     lines_in input      five lines, each ended by a newline, and nothing behind them
---     plain_of input      what a script of the plain form says; None where the input isn't one
+--     factor_in name text      the factor that the whole text is
+--     term_in name text      its factors, between the bytes *
+--     sum_in name text      its terms, between the blanks round each +
+--     lines_in input      four lines, each ended by a newline, and what stands behind them
+--     frame_of lines      what the lines say, but for the polynomial
+--     script_in input      what a script of the plain form says; None where the input isn't one
 use Rattle.std.specs.Prelude.{◌≡◌, ℕ, ◌==◌, ◌&&◌, ◌-◌, ◌^◌, nat_le, not, Bool, true, false, if◌then◌else◌}
-use Rattle.std.specs.Prelude.{List, [], ◌∷◌, length, Option, Some, None, codes}
+use Rattle.std.specs.Prelude.{List, [], ◌∷◌, length, slice_index, Option, Some, None, codes}
 use Rattle.std.specs.Option.{option_map}
-use Rattle.std.specs.List.{list_all}
+use Rattle.std.specs.List.{list_all, slice_split}
+use Rattle.std.specs.Str.{bytes_eq}
 use Rattle.std.specs.Char.{is_ascii_digit}
+use Rattle.hensel_tool.specs.declared.script.PlainFactor.{PlainFactor}
+use Rattle.hensel_tool.specs.declared.script.PlainFactor.TheVariants as factor
 use Rattle.hensel_tool.specs.Numbers.{number_of, is_name}
 use Rattle.hensel_tool.specs.Plain.{Plain}
 
@@ -35,26 +45,76 @@ abbrev pub is_nothing : List ℕ → Bool
 is_nothing [] = true
 is_nothing (b ∷ bs) = false
 
+abbrev pub is_byte : ℕ → List ℕ → Bool
+is_byte b text = (length text == 1) && (slice_index text 0 == b)
+
 unfoldable pub number_at_most : ℕ → List ℕ → Option ℕ
 number_at_most limit text =
     if not (is_nothing text) && list_all is_ascii_digit text && nat_le (number_of text) limit
     then Some (number_of text) else None
 
-pub record FiveLines : Type 0 where
+-- a factor with no exponent
+unfoldable pub single_in : List ℕ → List ℕ → Option PlainFactor
+single_in name text =
+    if is_byte 89 text then Some factor.Main else
+    (if bytes_eq text name then Some factor.Variable else
+    option_map (λ n. factor.Number n) (number_at_most (2 ^ 64 - 1) text))
+
+-- a base and its exponent
+unfoldable pub power_in : List ℕ → List ℕ → List ℕ → Option PlainFactor
+power_in name base digits = do
+  e ← number_at_most 255 digits
+  if is_byte 89 base then Some (factor.MainPower e) else
+      (if bytes_eq base name then Some (factor.VariablePower e) else None)
+
+abbrev pub single_or_power : List ℕ → List ℕ → Option (List ℕ × List ℕ) → Option PlainFactor
+single_or_power name text None = single_in name text
+single_or_power name text (Some p) = power_in name p.0 p.1
+
+unfoldable pub factor_in : List ℕ → List ℕ → Option PlainFactor
+factor_in name text = single_or_power name text (cut_at 94 text)
+
+-- the factors that the texts are
+abbrev pub factors_in : List ℕ → List (List ℕ) → Option (List PlainFactor)
+factors_in name [] = Some []
+factors_in name (text ∷ texts) = do
+  f ← factor_in name text
+  option_map (λ fs. f ∷ fs) (factors_in name texts)
+
+unfoldable pub term_in : List ℕ → List ℕ → Option (List PlainFactor)
+term_in name text = factors_in name (slice_split (λ x. x == 42) text)
+
+-- the terms that the texts are, each but the last with a + behind it
+abbrev pub terms_in : List ℕ → List (List ℕ) → Option (List (List PlainFactor))
+terms_in name [] = None
+terms_in name (text ∷ []) = option_map (λ fs. fs ∷ []) (term_in name text)
+terms_in name (text ∷ plus ∷ texts) = do
+  fs ← term_in name text
+  if is_byte 43 plus then option_map (λ ts. fs ∷ ts) (terms_in name texts) else None
+
+unfoldable pub sum_in : List ℕ → List ℕ → Option (List (List PlainFactor))
+sum_in name text = terms_in name (slice_split (λ x. x == 32) text)
+
+pub record FourLines : Type 0 where
   pub first : List ℕ
   pub second : List ℕ
   pub third : List ℕ
   pub fourth : List ℕ
-  pub fifth : List ℕ
+  pub behind : List ℕ
 
-unfoldable pub lines_in : List ℕ → Option FiveLines
+unfoldable pub lines_in : List ℕ → Option FourLines
 lines_in input = do
-  a ← cut_at 10 input
-  b ← cut_at 10 a.1
-  c ← cut_at 10 b.1
-  d ← cut_at 10 c.1
-  e ← cut_at 10 d.1
-  if is_nothing e.1 then Some (record { first = a.0; second = b.0; third = c.0; fourth = d.0; fifth = e.0 }) else None
+  first ← cut_at 10 input
+  second ← cut_at 10 first.1
+  third ← cut_at 10 second.1
+  fourth ← cut_at 10 third.1
+  Some (record {
+    first = first.0;
+    second = second.0;
+    third = third.0;
+    fourth = fourth.0;
+    behind = fourth.1;
+  })
 
 unfoldable pub modulus_in : List ℕ → Option ℕ
 modulus_in line = do
@@ -67,30 +127,63 @@ name_in line = do
   name ← strip (codes "vars ") line
   if is_name name then Some name else None
 
-unfoldable pub power_in : List ℕ → List ℕ → Option ℕ
-power_in name line = do
-  rest ← strip (codes "poly Y^") line
-  parts ← cut_at 32 rest
-  behind ← strip (codes "+ ") parts.1
-  end ← strip name behind
-  power ← number_at_most 32 parts.0
-  if is_nothing end && nat_le 1 power then Some power else None
+-- the root and its multiplicity
+unfoldable pub root_in : List ℕ → Option (ℕ × ℕ)
+root_in line = do
+  rest ← strip (codes "roots ") line
+  parts ← cut_at 58 rest
+  root ← number_at_most (2 ^ 64 - 1) parts.0
+  times ← number_at_most 32 parts.1
+  if nat_le 1 times then Some (root, times) else None
 
-unfoldable pub times_in : List ℕ → Option ℕ
-times_in line = strip (codes "roots 0:") line >>= number_at_most 32
+-- the precision that the line behind the four asks for; nothing where there is no line
+unfoldable pub request_in : List ℕ → Option (Option ℕ)
+request_in behind = if is_nothing behind then Some None else (do
+  parts ← cut_at 10 behind
+  digits ← strip (codes "show ") parts.0
+  d ← number_at_most 4095 digits
+  if is_nothing parts.1 then Some (Some d) else None)
 
-unfoldable pub precision_in : List ℕ → Option ℕ
-precision_in line = strip (codes "show ") line >>= number_at_most 4095
+-- what a script says, with its polynomial as it is written
+pub record Frame : Type 0 where
+  pub modulus : ℕ
+  pub name : List ℕ
+  pub polynomial : List ℕ
+  pub root : ℕ
+  pub times : ℕ
+  pub request : Option ℕ
 
-unfoldable pub plain_in : FiveLines → Option Plain
-plain_in lines = do
+unfoldable pub frame_of : FourLines → Option Frame
+frame_of lines = do
   modulus ← modulus_in lines.first
   name ← name_in lines.second
-  power ← power_in name lines.third
-  times ← times_in lines.fourth
-  precision ← precision_in lines.fifth
-  if times == power then Some (record { modulus = modulus; name = name; power = power; precision = precision })
-      else None
+  polynomial ← strip (codes "poly ") lines.third
+  root ← root_in lines.fourth
+  request ← request_in lines.behind
+  Some (record {
+    modulus = modulus;
+    name = name;
+    polynomial = polynomial;
+    root = root.0;
+    times = root.1;
+    request = request;
+  })
 
-unfoldable pub plain_of : List ℕ → Option Plain
-plain_of input = if nat_le (length input) 65536 then lines_in input >>= plain_in else None
+abbrev pub with_terms : Frame → List (List PlainFactor) → Plain
+with_terms frame terms = record {
+  modulus = frame.modulus;
+  name = frame.name;
+  terms = terms;
+  root = frame.root;
+  times = frame.times;
+  request = frame.request;
+}
+
+unfoldable pub frame_in : List ℕ → Option Frame
+frame_in input = if nat_le (length input) 65536 then lines_in input >>= frame_of else None
+
+abbrev pub plain_in : Frame → Option Plain
+plain_in frame = option_map (with_terms frame) (sum_in frame.name frame.polynomial)
+
+unfoldable pub script_in : List ℕ → Option Plain
+script_in input = frame_in input >>= plain_in

@@ -8,14 +8,30 @@ mod words;
 // pieces of a text: cuts, prefixes, numbers and names
 mod reading;
 
-// scripts of the plain form
+// scripts of the plain form, and how they are read
 mod plain;
+mod polynomial;
+mod script;
+mod terms;
 
-// the text of a plain script's block
+// what a script's polynomial is: its measures, and its coefficients at the origin
+mod measures;
+mod origin;
+
+// what may be wrong with a script's job, and the line that tells it
+mod fault;
+mod fault_line;
+
+// the block of a script's factor, from rows of homogeneous parts
 mod block;
+mod rows;
 
 // the program's work, from bytes to bytes
+mod answer;
 mod program;
+#[cfg(test)]
+mod reading_tests;
+mod status;
 #[cfg(test)]
 mod tests;
 

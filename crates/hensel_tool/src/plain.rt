@@ -1,92 +1,116 @@
-//! Scripts of the plain form.
-ghost use Rattle.std.specs.Prelude.{◌≡◌, IfSome, IfNone};
-ghost use Rattle.hensel_tool.specs.Plain.{Plain, IsPlain};
-ghost use Rattle.hensel_tool.specs.PlainReading.{Gives, lines_in, modulus_in, name_in, power_in};
-ghost use Rattle.hensel_tool.specs.PlainReading.{times_in};
-ghost use Rattle.hensel_tool.specs.PlainReading.{precision_in, plain_in, plain_of};
-ghost use Rattle.hensel_tool.specs.PlainView.{plain_view, lines_view};
+//! Scripts of the plain form: `mod N`, `vars NAME`, `poly M + M + ..`, `roots C:K` and perhaps
+//! `show D`, a line each.
+ghost use Rattle.std.specs.Prelude.{◌≡◌, Option, Some, None, IfOk, IfSome, IfNone};
+ghost use Rattle.hensel_tool.specs.Plain.{Plain, IsWritten};
+ghost use Rattle.hensel_tool.specs.PlainReading.{Gives, frame_in, frame_of, lines_in};
+ghost use Rattle.hensel_tool.specs.PlainReading.{modulus_in, name_in, root_in, request_in};
+ghost use Rattle.hensel_tool.specs.PlainReading.{script_in};
+ghost use Rattle.hensel_tool.specs.PlainView.{plain_view};
+ghost use Rattle.hensel_tool.specs.ReadingView.{lines_view, frame_view};
 
+use crate::polynomial::sum;
 use crate::reading::{cut, is_name, number, strip};
+use crate::script::PlainScript;
+use ps_model::OutOfMemory;
+use std::alloc::Global;
 
 /// The greatest input of the plain form, in bytes.
 const MOST_BYTES: usize = 65536;
 
-/// What a script of the plain form says: `mod N`, `vars NAME`, `poly Y^E + NAME`, `roots 0:E`,
-/// `show D`.
+/// The first four lines of an input, without their newlines, and what is behind them.
 #[derive(Clone, Copy)]
-pub struct PlainScript<'a> {
-    pub modulus: u64,
-    pub name: &'a [u8],
-    pub power: u32,
-    pub precision: u32,
-}
-
-/// The five lines of an input, without their newlines.
-#[derive(Clone, Copy)]
-struct FiveLines<'a> {
+struct FourLines<'a> {
     first: &'a [u8],
     second: &'a [u8],
     third: &'a [u8],
     fourth: &'a [u8],
-    fifth: &'a [u8],
+    behind: &'a [u8],
+}
+
+/// What a script says, with its polynomial as it is written.
+#[derive(Clone, Copy)]
+struct Frame<'a> {
+    modulus: u64,
+    name: &'a [u8],
+    polynomial: &'a [u8],
+    root: u64,
+    times: u32,
+    request: Option<u32>,
 }
 
 /// Reads a script of the plain form: `None` exactly where the input isn't one.
-pub fn read(input: &[u8]) -> Option<PlainScript<'_>>
-    ensures found { IfSome result (λ s. IsPlain input.now (plain_view s)) }
-    ensures none { IfNone result ((s : Plain) → IsPlain input.now s → ⊥) }
+pub fn read(alloc: Global, input: &[u8]) -> Result<Option<PlainScript<'_>>, OutOfMemory>
+    ensures found { IfOk result (λ answer. IfSome answer
+        (λ s. IsWritten input.now (plain_view s))) }
+    ensures none { IfOk result (λ answer. IfNone answer
+        ((s : Plain) → IsWritten input.now s → ⊥)) }
 {
-    reading(input)
+    reading(alloc, input)
 }
 
-#[tactic(auto, unfolding(crate::specs::PlainReading::plain_of))]
-fn reading(input: &[u8]) -> Option<PlainScript<'_>>
-    ensures { Gives plain_view result (plain_of input.now) }
+#[tactic(auto, unfolding(crate::specs::PlainReading::script_in))]
+fn reading(alloc: Global, input: &[u8]) -> Result<Option<PlainScript<'_>>, OutOfMemory>
+    ensures { IfOk result (λ answer. Gives plain_view answer (script_in input.now)) }
+{
+    let Some(frame) = frame_of_input(input) else {
+        return Ok(None);
+    };
+    let Some(terms) = sum(alloc, frame.name, frame.polynomial)? else {
+        return Ok(None);
+    };
+    Ok(Some(PlainScript {
+        modulus: frame.modulus,
+        name: frame.name,
+        terms,
+        root: frame.root,
+        times: frame.times,
+        request: frame.request,
+    }))
+}
+
+#[tactic(auto, unfolding(crate::specs::PlainReading::frame_in))]
+fn frame_of_input(input: &[u8]) -> Option<Frame<'_>>
+    ensures { Gives frame_view result (frame_in input.now) }
 {
     if input.len() > MOST_BYTES {
         return None;
     }
-    script(lines(input)?)
+    frame_of_lines(lines(input)?)
 }
 
 #[tactic(auto, unfolding(crate::specs::PlainReading::lines_in))]
-fn lines(input: &[u8]) -> Option<FiveLines<'_>>
+fn lines(input: &[u8]) -> Option<FourLines<'_>>
     ensures { Gives lines_view result (lines_in input.now) }
 {
     let (first, rest) = cut(input, b'\n')?;
     let (second, rest) = cut(rest, b'\n')?;
     let (third, rest) = cut(rest, b'\n')?;
-    let (fourth, rest) = cut(rest, b'\n')?;
-    let (fifth, rest) = cut(rest, b'\n')?;
-    if !rest.is_empty() {
-        return None;
-    }
-    Some(FiveLines {
+    let (fourth, behind) = cut(rest, b'\n')?;
+    Some(FourLines {
         first,
         second,
         third,
         fourth,
-        fifth,
+        behind,
     })
 }
 
-#[tactic(auto, unfolding(crate::specs::PlainReading::plain_in))]
-fn script(lines: FiveLines<'_>) -> Option<PlainScript<'_>>
-    ensures { Gives plain_view result (plain_in (lines_view lines.entry)) }
+#[tactic(auto, unfolding(crate::specs::PlainReading::frame_of))]
+fn frame_of_lines(lines: FourLines<'_>) -> Option<Frame<'_>>
+    ensures { Gives frame_view result (frame_of (lines_view lines.entry)) }
 {
     let modulus = modulus(lines.first)?;
     let name = name(lines.second)?;
-    let power = power(name, lines.third)?;
-    let times = times(lines.fourth)?;
-    let precision = precision(lines.fifth)?;
-    if times != power {
-        return None;
-    }
-    Some(PlainScript {
+    let polynomial = strip(lines.third, b"poly ")?;
+    let (root, times) = root(lines.fourth)?;
+    let request = request(lines.behind)?;
+    Some(Frame {
         modulus,
         name,
-        power,
-        precision,
+        polynomial,
+        root,
+        times,
+        request,
     })
 }
 
@@ -112,33 +136,32 @@ fn name(line: &[u8]) -> Option<&[u8]>
     Some(name)
 }
 
-#[tactic(auto, unfolding(crate::specs::PlainReading::power_in))]
-fn power(name: &[u8], line: &[u8]) -> Option<u32>
-    ensures { Gives (λ n. n) result (power_in name.now line.now) }
+/// The root and its multiplicity.
+#[tactic(auto, unfolding(crate::specs::PlainReading::root_in))]
+fn root(line: &[u8]) -> Option<(u64, u32)>
+    ensures { Gives (λ p. p) result (root_in line.now) }
 {
-    let rest = strip(line, b"poly Y^")?;
-    let (digits, behind) = cut(rest, b' ')?;
-    let behind = strip(behind, b"+ ")?;
-    let end = strip(behind, name)?;
-    let power = number(digits, 32)?;
-    if !end.is_empty() || power == 0 {
+    let (root, times) = cut(strip(line, b"roots ")?, b':')?;
+    let root = number(root, u64::MAX)?;
+    let times = number(times, 32)?;
+    if times == 0 {
         return None;
     }
-    Some(power as u32)
+    Some((root, times as u32))
 }
 
-#[tactic(auto, unfolding(crate::specs::PlainReading::times_in))]
-fn times(line: &[u8]) -> Option<u32>
-    ensures { Gives (λ n. n) result (times_in line.now) }
+/// The precision that is asked for, in the line behind the four, where there is one.
+#[tactic(auto, unfolding(crate::specs::PlainReading::request_in))]
+fn request(behind: &[u8]) -> Option<Option<u32>>
+    ensures { Gives (λ d. d) result (request_in behind.now) }
 {
-    let times = number(strip(line, b"roots 0:")?, 32)?;
-    Some(times as u32)
-}
-
-#[tactic(auto, unfolding(crate::specs::PlainReading::precision_in))]
-fn precision(line: &[u8]) -> Option<u32>
-    ensures { Gives (λ n. n) result (precision_in line.now) }
-{
+    if behind.is_empty() {
+        return Some(None);
+    }
+    let (line, rest) = cut(behind, b'\n')?;
     let precision = number(strip(line, b"show ")?, 4095)?;
-    Some(precision as u32)
+    if !rest.is_empty() {
+        return None;
+    }
+    Some(Some(precision as u32))
 }

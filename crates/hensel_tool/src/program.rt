@@ -7,27 +7,14 @@ ghost use Rattle.ports.specs.Reading.{PullsMore};
 ghost use Rattle.hensel_tool.specs.Output.{factor_words, IsOutput};
 ghost use Rattle.hensel_tool.specs.Calls.{IsKnown, Outputs, OutputsPart};
 
-use crate::block::block;
-use crate::plain;
-use crate::words::{USAGE, are_factor};
+use crate::answer::answer_to;
+use crate::status::{
+    NOT_BUILT, OUT_OF_MEMORY, READ_FAULT, REFUSED, REFUSED_WORDS, USAGE, WRITE_FAULT,
+};
+use crate::words::are_factor;
 use ports::{Lines, NextLine, Sink, Source, WriteFault, put_all};
 use std::alloc::Global;
 use std::thread::Threads;
-
-/// The line for a script that isn't of a form that is built.
-const NOT_BUILT: &[u8] = b"refused end: not built yet\n";
-
-const DONE: u8 = 0;
-
-const REFUSED: u8 = 1;
-
-const REFUSED_WORDS: u8 = 2;
-
-const READ_FAULT: u8 = 3;
-
-const WRITE_FAULT: u8 = 4;
-
-const OUT_OF_MEMORY: u8 = 5;
 
 /// Does what the words say: reads the source, writes to the sink, and answers the status.
 ///
@@ -119,12 +106,9 @@ fn answer<K: Sink>(alloc: Global, input: &[u8], sink: &mut K) -> u8
         OutputsPart factor_words (Some input.now) (K.written sink.old) (K.written sink.new) }
     ensures faults { K.faults sink.old ≤ K.faults sink.new }
 {
-    match plain::read(input) {
-        None => finish(sink, NOT_BUILT, REFUSED),
-        Some(script) => match block(alloc, &script) {
-            Ok(text) => finish(sink, &text, DONE),
-            Err(_) => OUT_OF_MEMORY,
-        },
+    match answer_to(alloc, input) {
+        Ok(reply) => finish(sink, &reply.text, reply.status),
+        Err(_) => OUT_OF_MEMORY,
     }
 }
 

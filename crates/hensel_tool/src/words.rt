@@ -2,10 +2,6 @@
 ghost use Rattle.std.specs.Prelude.{◌≡◌, ◌↔◌, IsTrue, map, string_bytes};
 ghost use Rattle.hensel_tool.specs.Output.{factor_words};
 
-/// The line for refused words.
-pub const USAGE: &[u8] =
-    b"usage: hensel_tool factor [--rounds N | --workers N] | expand | check | demo NUMBER\n";
-
 /// Whether the words are the one word `factor`.
 pub fn are_factor(words: &[String]) -> bool
     ensures { IsTrue result ↔ (map string_bytes words.now ≡ factor_words) }

@@ -6,7 +6,7 @@ use Rattle.hensel_tool.specs.Output.{factor_words, usage_line, not_built}
 use Rattle.hensel_tool.specs.Calls.{IsLeft, Outputs, OutputsPart}
 use Rattle.hensel_tool.proofs.Outputs.{usage_output, long_output, outputs_done, outputs_part, outputs_nothing}
 use Rattle.hensel_tool.proofs.Outputs.{some_input}
-use Rattle.hensel_tool.proofs.Outputs.{told_outputs, status_is, complete_of}
+use Rattle.hensel_tool.proofs.Outputs.{told_outputs, told_part, status_is, complete_of}
 use Rattle.hensel_tool.proofs.Inputs.{whole_input, long_input}
 use Rattle.hensel_tool.proofs.program.run.Given as Given
 use Rattle.hensel_tool.proofs.program.run.Goals as goal
@@ -53,6 +53,19 @@ long_outputs g c low =
     subst (λ (words : List (List ℕ)). Outputs words left written written' c.finish-in-TooLong.result) (sym taken)
     (outputs_done factor_words left written written' input.0 not_built 1 c.finish-in-TooLong.result input.1
     (long_output input.0 (let long = input.2 in omega arith)) c.finish-in-TooLong.ensures.done low)
+
+pub returns-in-Whole-clause-part : goal.returns-in-Whole-clause-part
+returns-in-Whole-clause-part g c =
+    let taken : map (string_bytes {Z = Global}) c.args.words.now ≡ factor_words =
+    c.are_factor.ensures.0 c.if-not-are_factor.false in
+    let left = g.S.Source.left c.args.source.now in
+    let written = g.K.Sink.written c.args.sink.now in
+    let written' = g.K.Sink.written c.answer.new.sink in
+    let read : IsLeft left c.bytes.result.now = subst (IsLeft left) (sym c.bytes.ensures)
+    (whole_input c.in-Ok.lines c.read_all.new.lines left (g.S.Source.left c.read_all.new.source) c.in-Ok.ensures.pulled
+    c.read_all.ensures.bytes (c.in-Whole.ensures.whole refl)) in
+    λ stopped. subst (λ (words : List (List ℕ)). OutputsPart words left written written') (sym taken)
+    (told_part factor_words left written written' c.bytes.result.now read (c.answer.ensures.part stopped))
 
 pub returns-in-Whole-clause-complete : goal.returns-in-Whole-clause-complete
 returns-in-Whole-clause-complete g c = λ input text status known output no_source no_sink.

@@ -1,0 +1,63 @@
+#!/bin/sh
+# Times the proved product of parts from outside, beside two of C++. It needs rt and g++.
+#
+# A workload's time is (time(n) - time(1)) / ((n - 1) * pairs), in nanoseconds for each
+# multiplication of coefficients, so that what comes once, as the start of the program and the
+# making of the two parts, is left out. Each of the two times is the least of nine.
+set -eu
+here=$(cd "$(dirname "$0")" && pwd)
+crate="$here/../../crates/parts_speed"
+work=$(mktemp -d)
+trap 'rm -rf "$work"' EXIT
+if [ ! -x "$crate/out/parts_speed" ]; then
+    (cd "$crate" && rt run -- product 2 10 10 101 1 >/dev/null)
+fi
+g++ -O2 -std=c++17 -o "$work/compare" "$here/compare.cpp"
+
+# the lines of C++, with the least of three in each column of times
+for _ in 1 2 3; do "$work/compare"; done | awk '{
+    key = $1 " " $2 " " $3 " " $4 " " $5 " " $6
+    if (!(key in plain)) { order[++keys] = key; plain[key] = $7; single[key] = $8; sum[key] = $9 }
+    if ($7 < plain[key]) plain[key] = $7
+    if ($8 < single[key]) single[key] = $8
+    if ($9 < sum[key]) sum[key] = $9
+} END {
+    for (i = 1; i <= keys; i++) {
+        key = order[i]
+        print key, plain[key], single[key], sum[key]
+    }
+}
+' >"$work/lines"
+
+# the least wall time of nine runs
+least() {
+    best=
+    for _ in 1 2 3 4 5 6 7 8 9; do
+        start=$(date +%s%N)
+        "$crate/out/parts_speed" "$@" >"$work/printed"
+        taken=$(($(date +%s%N) - start))
+        if [ -z "$best" ] || [ "$taken" -lt "$best" ]; then best=$taken; fi
+    done
+    echo "$best"
+}
+
+# row KIND TIMES PLAIN CELLS, with the words of a line of C++ set
+row() {
+    once=$(least "$1" "$n" "$first" "$second" "$modulus" 1)
+    many=$(least "$1" "$n" "$first" "$second" "$modulus" "$2")
+    awk -v once="$once" -v many="$many" -v count=$(($2 - 1)) -v pairs="$pairs" -v plain="$3" \
+        -v cells="$4" -v head="| $1 | $n | $first and $second | $modulus" \
+        -v printed="$(cat "$work/printed")" 'BEGIN {
+            each = (many - once) / (count * pairs)
+            printf "%s | %.2f | %s | %s | %.2f | %.2f | %s |\n", head, each, plain, cells,
+                each / plain, each / cells, printed
+        }'
+}
+
+echo "| kind | variables | degrees | modulus | proved | plain | cells | to plain | to cells" \
+    "| terms, checksum |"
+echo "|---|---|---|---|---|---|---|---|---|---|"
+while read -r modulus n first second _ pairs plain single together; do
+    row product 4000 "$plain" "$single"
+    row sum 4000 "$plain" "$together"
+done <"$work/lines"

@@ -1,0 +1,91 @@
+-- The first fault of a plain script's job, and when there is none.
+use Rattle.std.proofs.Common.{◌≡◌, ◌≢◌, ℕ, ◌≤◌, false, List, [], ◌∷◌, ◌++◌, map, refl, sym, ◌∙◌, ap, arith}
+use Rattle.ps_model.specs.declared.expr.Expr.TheBlock.{hidden-the_row-Summand-0, shape-the_row-Summand-0}
+use Rattle.ps_model.specs.declared.expr.Expr.TheBlock.{hidden-the_row-Factor-1, shape-the_row-Factor-1}
+use Rattle.ps_model.specs.declared.expr.Expr.TheBlock.{hidden-the_row-Expr-2}
+use denote.Hole.Carrier.{hidden}
+use Rattle.ps_model.specs.declared.job.JobData.{JobData}
+use Rattle.ps_model.specs.Factors.{total_times}
+use Rattle.ps_model.specs.Tree.{formal_degree, divisors, summand_divisors, factor_divisors}
+use Rattle.ps_model.specs.Value.{HasLead}
+use Rattle.ps_model.specs.Job.{job_ring, told_count, AreAtOrigin, DifferAt, IsFirstFault, IsValidJob}
+use Rattle.ps_model.specs.Job.{NotMonic, DegreeMismatch, RootsMismatch}
+use Rattle.ps_model.proofs.FaultOrder.{no_division_by_y, no_pair, first_not_monic, first_mismatch, first_roots, valid}
+use Rattle.hensel_tool.specs.declared.script.PlainFactor.{PlainFactor}
+use Rattle.hensel_tool.specs.declared.script.PlainFactor.TheVariants as factor
+use Rattle.hensel_tool.specs.Plain.{Plain, IsSmall, factor_tree, term_tree, plain_tree, plain_job}
+
+-- no division stands in the tree
+divisors_of_factor : (f : PlainFactor) → divisors (factor_tree f) ≡ []
+unfolding hidden-the_row-Expr-2 hidden
+divisors_of_factor (factor.Number c) = refl
+divisors_of_factor factor.Variable = refl
+divisors_of_factor (factor.VariablePower e) = refl
+divisors_of_factor factor.Main = refl
+divisors_of_factor (factor.MainPower e) = refl
+
+divisors_of_factors : (fs : List PlainFactor) → factor_divisors
+    (hidden-the_row-Factor-1 (map (λ f. record { divide = false; of = factor_tree f }) fs)) ≡ []
+unfolding hidden-the_row-Factor-1 shape-the_row-Factor-1 hidden
+divisors_of_factors [] = refl
+divisors_of_factors (f ∷ fs) = λ i. divisors_of_factor f i ++ divisors_of_factors fs i
+
+divisors_of_term : (t : List PlainFactor) → divisors (term_tree t) ≡ []
+unfolding hidden-the_row-Factor-1 shape-the_row-Factor-1 hidden
+divisors_of_term [] = refl
+divisors_of_term (f ∷ []) = divisors_of_factor f
+divisors_of_term (f ∷ g ∷ fs) = divisors_of_factors (f ∷ g ∷ fs)
+
+divisors_of_sum : (ts : List (List PlainFactor)) → summand_divisors
+    (hidden-the_row-Summand-0 (map (λ t. record { minus = false; of = term_tree t }) ts)) ≡ []
+unfolding hidden-the_row-Summand-0 shape-the_row-Summand-0 hidden
+divisors_of_sum [] = refl
+divisors_of_sum (t ∷ ts) = λ i. divisors_of_term t i ++ divisors_of_sum ts i
+
+plain_divisors : (ts : List (List PlainFactor)) → divisors (plain_tree ts) ≡ []
+unfolding hidden-the_row-Summand-0 shape-the_row-Summand-0 hidden
+plain_divisors [] = refl
+plain_divisors (t ∷ []) = divisors_of_term t
+plain_divisors (t ∷ u ∷ ts) = divisors_of_sum (t ∷ u ∷ ts)
+
+told_small : (n : ℕ) → n ≤ 32 → n ≡ told_count n
+told_small n small = omega arith
+
+module _ (s : Plain) (small : IsSmall s.terms) where
+  abbrev the_job : JobData
+  the_job = plain_job s
+
+  abbrev tree_degree : ℕ
+  tree_degree = formal_degree (plain_tree s.terms)
+
+  pub not_monic : (HasLead (job_ring the_job) (plain_tree s.terms) 1 → ⊥) → IsFirstFault the_job NotMonic
+  not_monic other = first_not_monic the_job (no_division_by_y the_job (plain_divisors s.terms)) small.nodes
+      small.degree other
+
+  module _ (lead : HasLead (job_ring the_job) (plain_tree s.terms) 1) where
+    pub mismatch : s.times ≤ 32 → tree_degree ≢ s.times → IsFirstFault the_job (DegreeMismatch tree_degree s.times)
+    mismatch few other = first_mismatch the_job (no_division_by_y the_job (plain_divisors s.terms)) small.nodes
+        small.degree lead
+        (plain_divisors s.terms) tree_degree s.times (
+          λ e. other (e ∙ all_times),
+          told_small tree_degree small.degree,
+          told_small s.times few ∙ ap told_count (sym all_times),
+        )
+      where
+        all_times : total_times the_job.roots ≡ s.times
+        all_times = omega arith
+
+    module _ (same : tree_degree ≡ s.times) where
+      all_times : tree_degree ≡ total_times the_job.roots
+      all_times = same ∙ omega arith
+
+      pub roots_differ : (p input roots : ℕ) → AreAtOrigin the_job p input roots → input ≢ roots
+          → ((i : ℕ) → DifferAt the_job i → p ≤ i) → IsFirstFault the_job (RootsMismatch p input roots)
+      roots_differ p input roots at differ least =
+          first_roots the_job (no_division_by_y the_job (plain_divisors s.terms))
+          small.nodes small.degree lead (plain_divisors s.terms) all_times
+          (no_pair s.modulus (plain_tree s.terms) _) p input roots (at, ((input, roots, at, differ), least))
+
+      pub all_right : ((p : ℕ) → DifferAt the_job p → ⊥) → IsValidJob the_job
+      all_right agree = valid the_job (no_division_by_y the_job (plain_divisors s.terms)) small.nodes small.degree lead
+          (plain_divisors s.terms) all_times (no_pair s.modulus (plain_tree s.terms) _) agree

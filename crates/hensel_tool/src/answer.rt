@@ -1,0 +1,97 @@
+//! What `factor` answers to an input.
+ghost use Rattle.std.specs.Prelude.{◌≡◌, ℕ, ◌<◌, List, IfOk};
+ghost use Rattle.ps_model.specs.Job.{IsValidJob};
+ghost use Rattle.residue.specs.Residues.{number_of};
+ghost use Rattle.hensel_tool.specs.Plain.{IsPlain, plain_job};
+ghost use Rattle.hensel_tool.specs.Form.{IsOfForm};
+ghost use Rattle.hensel_tool.specs.Output.{factor_words, not_built as not_built_line};
+ghost use Rattle.hensel_tool.specs.Output.{IsOutput, IsRequestText};
+ghost use Rattle.hensel_tool.specs.PlainView.{plain_view};
+
+use crate::block::block;
+use crate::fault::first_fault;
+use crate::fault_line::fault_line;
+use crate::measures::is_small;
+use crate::plain::read;
+use crate::script::PlainScript;
+use crate::status::{DONE, NOT_BUILT, REFUSED};
+use ps_model::OutOfMemory;
+use residue::Modulus;
+use std::alloc::{AllocError, Global};
+
+/// What is written for an input, and the status: 1 where the script is refused, and else 0.
+#[derive(Drop)]
+pub struct Reply {
+    pub text: Vec<u8>,
+    pub status: u8,
+}
+
+/// The answer to an input: a block, nothing where the script asks for none, or the line that
+/// refuses it.
+pub fn answer_to(alloc: Global, input: &[u8]) -> Result<Reply, OutOfMemory>
+    ensures output { IfOk result
+        (λ reply. IsOutput factor_words input.now reply.text.items reply.status) }
+    ensures low { IfOk result (λ reply. reply.status < 2) }
+{
+    match read(alloc, input)? {
+        None => Ok(not_built(alloc)?),
+        Some(script) => {
+            if !is_small(script.terms.as_slice()) {
+                return Ok(not_built(alloc)?);
+            }
+            answer_script(alloc, &script)
+        }
+    }
+}
+
+/// The answer to a script of the plain form.
+fn answer_script(alloc: Global, script: &PlainScript<'_>) -> Result<Reply, OutOfMemory>
+    requires { IsOfForm (plain_view script.now) }
+    ensures output { IfOk result
+        (λ reply. (input : List ℕ) → IsPlain input (plain_view script.now) →
+        IsOutput factor_words input reply.text.items reply.status) }
+    ensures low { IfOk result (λ reply. reply.status < 2) }
+{
+    let modulus = Modulus::new(script.modulus).unwrap();
+    match first_fault(alloc, modulus, script)? {
+        Some(fault) => Ok(Reply {
+            text: fault_line(alloc, &fault)?,
+            status: REFUSED,
+        }),
+        None => Ok(Reply {
+            text: requested(alloc, modulus, script)?,
+            status: DONE,
+        }),
+    }
+}
+
+/// The text of the script's request, which is empty where it makes none.
+fn requested(
+    alloc: Global,
+    modulus: Modulus,
+    script: &PlainScript<'_>,
+) -> Result<Vec<u8>, OutOfMemory>
+    requires modulus { number_of modulus ≡ script.now.modulus }
+    requires form { IsOfForm (plain_view script.now) }
+    requires valid { IsValidJob (plain_job (plain_view script.now)) }
+    ensures { IfOk result
+        (λ text. IsRequestText (plain_view script.now) script.now.request text.items) }
+{
+    match script.request {
+        None => Ok(Vec::new(alloc)),
+        Some(precision) => block(alloc, modulus, script, precision),
+    }
+}
+
+/// The line for a script that isn't of a form that is built.
+fn not_built(alloc: Global) -> Result<Reply, AllocError>
+    ensures text { IfOk result (λ reply. reply.text.items ≡ not_built_line) }
+    ensures status { IfOk result (λ reply. reply.status ≡ 1) }
+{
+    let mut text = Vec::new(alloc);
+    text.extend_from_slice(NOT_BUILT)?;
+    Ok(Reply {
+        text,
+        status: REFUSED,
+    })
+}

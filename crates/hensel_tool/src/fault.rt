@@ -1,0 +1,61 @@
+//! What may be wrong with the job of a plain script.
+ghost use Rattle.std.specs.Prelude.{◌≡◌, IfOk, IfSome, IfNone};
+ghost use Rattle.ps_model.specs.Job.{IsFirstFault, IsValidJob};
+ghost use Rattle.residue.specs.Residues.{number_of};
+ghost use Rattle.hensel_tool.specs.Plain.{plain_job};
+ghost use Rattle.hensel_tool.specs.Form.{IsOfForm};
+ghost use Rattle.hensel_tool.specs.PlainFaultView.{fault_of};
+ghost use Rattle.hensel_tool.specs.PlainView.{plain_view};
+
+use crate::measures::{formal_degree, is_monic};
+use crate::origin::first_difference;
+use crate::script::PlainScript;
+use ps_model::OutOfMemory;
+use residue::Modulus;
+use std::alloc::Global;
+
+/// The first fault of a plain script's job, with the values that are told.
+#[derive(Clone, Copy, Debug, PartialEq, Eq)]
+pub enum PlainFault {
+    /// The leading number isn't 1, or isn't known.
+    NotMonic,
+    /// The formal degree, and the multiplicity of the root.
+    DegreeMismatch { degree: u32, total: u32 },
+    /// A power of Y, its coefficient in the polynomial at the origin, and that in the root's power.
+    RootsMismatch { power: u32, input: u64, roots: u64 },
+}
+
+/// What is wrong with the script's job, by the order of the faults.
+pub fn first_fault(
+    alloc: Global,
+    modulus: Modulus,
+    script: &PlainScript<'_>,
+) -> Result<Option<PlainFault>, OutOfMemory>
+    requires modulus { number_of modulus ≡ script.now.modulus }
+    requires form { IsOfForm (plain_view script.now) }
+    ensures fault { IfOk result (λ found. IfSome found
+        (λ fault. IsFirstFault (plain_job (plain_view script.now)) (fault_of fault))) }
+    ensures valid { IfOk result (λ found. IfNone found
+        (IsValidJob (plain_job (plain_view script.now)))) }
+{
+    let terms = &script.terms;
+    if !is_monic(modulus, terms.as_slice()) {
+        return Ok(Some(PlainFault::NotMonic));
+    }
+    let degree = formal_degree(terms.as_slice());
+    if degree != script.times {
+        return Ok(Some(PlainFault::DegreeMismatch {
+            degree,
+            total: script.times,
+        }));
+    }
+    let root = modulus.reduce(script.root);
+    match first_difference(alloc, modulus, terms, root, script.times)? {
+        None => Ok(None),
+        Some(difference) => Ok(Some(PlainFault::RootsMismatch {
+            power: difference.power,
+            input: difference.input,
+            roots: difference.roots,
+        })),
+    }
+}

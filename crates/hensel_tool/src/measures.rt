@@ -1,0 +1,188 @@
+//! Degree, nodes and leading number of a plain polynomial, and the limits that it keeps.
+ghost use Rattle.std.specs.Prelude.{◌≡◌, ◌≢◌, ◌%◌, ◌≤◌, ◌↔◌, ◌∷◌, [], IsTrue, SomeIff};
+ghost use Rattle.ps_model.specs.Tree.{formal_degree};
+ghost use Rattle.ps_model.specs.Value.{HasLead};
+ghost use Rattle.ps_model.specs.Job.{series_ring};
+ghost use Rattle.residue.specs.Residues.{number_of};
+ghost use Rattle.hensel_tool.specs.Plain.{plain_tree, power_of_variable, variable_power, IsSmall};
+ghost use Rattle.hensel_tool.specs.PlainValue.{number_in, power_of_main, coefficient_of};
+ghost use Rattle.hensel_tool.specs.PlainValue.{main_power};
+ghost use Rattle.hensel_tool.specs.Measures.{greatest_main_power, factor_nodes, IsWithinLimits};
+ghost use Rattle.hensel_tool.specs.Measures.{size_of, size_with};
+
+use crate::script::PlainFactor;
+use crate::terms::{coefficient, power_of_main, power_of_variable};
+use residue::Modulus;
+use sqlite_items::Items;
+
+/// The greatest power of the variable in a term.
+const VARIABLE_LIMIT: u32 = 4095;
+/// The greatest formal degree.
+const DEGREE_LIMIT: u32 = 32;
+/// The most nodes.
+const NODE_LIMIT: u32 = 4096;
+
+/// What the limits bound in a term.
+#[derive(Clone, Copy)]
+struct TermSize {
+    variable_power: u32,
+    main_power: u32,
+    nodes: u32,
+}
+
+/// Whether the sum keeps the limits: at most 4095 as a term's power of the variable, degree 32 and
+/// 4096 nodes. It stops at the first factor that goes above one.
+pub fn is_small(terms: &[Items<PlainFactor>]) -> bool
+    ensures { IsTrue result ↔ IsSmall terms.now }
+{
+    let mut degree = 0;
+    let mut nodes = 0;
+    for term in terms {
+        let Some(size) = term_size(term.as_slice()) else {
+            return false;
+        };
+        degree = degree.max(size.main_power);
+        nodes += size.nodes;
+        if nodes > NODE_LIMIT {
+            return false;
+        }
+    }
+    terms.len() == 1 || nodes + degree + 1 <= NODE_LIMIT
+}
+
+/// The formal degree in Y of a sum that keeps the limits.
+pub fn formal_degree(terms: &[Items<PlainFactor>]) -> u32
+    requires { IsSmall terms.now }
+    ensures { result ≡ formal_degree (plain_tree terms.now) }
+{
+    greatest_main_power(terms) as u32
+}
+
+/// Whether the leading number is known by the sum's form and is 1: no term of the formal degree
+/// has the variable, and the coefficients of these terms add to 1.
+pub fn is_monic(modulus: Modulus, terms: &[Items<PlainFactor>]) -> bool
+    ensures { IsTrue result ↔ HasLead (series_ring (number_of modulus)) (plain_tree terms.now) 1 }
+{
+    let degree = greatest_main_power(terms);
+    let mut lead = 0;
+    for term in terms {
+        let factors = term.as_slice();
+        if main_power(factors) != degree {
+            continue;
+        }
+        if has_variable(factors) {
+            return false;
+        }
+        lead = modulus.add(lead, coefficient(modulus, factors));
+    }
+    lead == 1
+}
+
+/// The measures of a term; `None` where they break a limit.
+fn term_size(term: &[PlainFactor]) -> Option<TermSize>
+    ensures { SomeIff result (IsWithinLimits (size_of term.now)) (size_of term.now) }
+{
+    let [first, rest @ ..] = term else {
+        return Some(TermSize {
+            variable_power: 0,
+            main_power: 0,
+            nodes: 0,
+        });
+    };
+    let mut size = factor_size(*first)?;
+    for factor in rest {
+        size = add_factor(size, *factor)?;
+    }
+    Some(size)
+}
+
+/// The measures of a factor alone.
+fn factor_size(factor: PlainFactor) -> Option<TermSize>
+    ensures { SomeIff result (IsWithinLimits (size_of (factor ∷ []))) (size_of (factor ∷ [])) }
+{
+    let variable_power = power_of_variable(factor);
+    let main_power = power_of_main(factor);
+    if variable_power > VARIABLE_LIMIT || main_power > DEGREE_LIMIT {
+        return None;
+    }
+    let nodes = nodes_of(factor);
+    if nodes > NODE_LIMIT {
+        return None;
+    }
+    Some(TermSize {
+        variable_power,
+        main_power,
+        nodes,
+    })
+}
+
+/// The measures of a product, from those of its first factors and the last.
+fn add_factor(size: TermSize, factor: PlainFactor) -> Option<TermSize>
+    requires { IsWithinLimits size }
+    ensures { SomeIff result (IsWithinLimits (size_with size factor)) (size_with size factor) }
+{
+    let last = factor_size(factor)?;
+    let variable_power = size.variable_power + last.variable_power;
+    let main_power = size.main_power + last.main_power;
+    let nodes = size.nodes + (last.nodes + (main_power + 1));
+    if variable_power > VARIABLE_LIMIT || main_power > DEGREE_LIMIT || nodes > NODE_LIMIT {
+        return None;
+    }
+    Some(TermSize {
+        variable_power,
+        main_power,
+        nodes,
+    })
+}
+
+/// The nodes of a factor with a small exponent.
+fn nodes_of(factor: PlainFactor) -> u32
+    requires { power_of_main factor ≤ 32 }
+    ensures { result ≡ factor_nodes factor }
+{
+    match factor {
+        PlainFactor::Number(_) | PlainFactor::Variable => 1,
+        PlainFactor::VariablePower(0) => 2,
+        PlainFactor::VariablePower(e) => e,
+        PlainFactor::Main => 2,
+        PlainFactor::MainPower(0) => 3,
+        PlainFactor::MainPower(e) => e * (e + 3) / 2,
+    }
+}
+
+/// The greatest power of Y in a term; 0 of none.
+fn greatest_main_power(terms: &[Items<PlainFactor>]) -> u128
+    ensures { result ≡ greatest_main_power terms.now }
+{
+    let mut greatest = 0;
+    for term in terms {
+        greatest = greatest.max(main_power(term.as_slice()));
+    }
+    greatest
+}
+
+/// The power of Y in a term: below 2^96, since memory has fewer than 2^64 factors.
+fn main_power(term: &[PlainFactor]) -> u128
+    ensures { result ≡ main_power term.now }
+{
+    let mut power = 0;
+    for factor in term {
+        power += u128::from(power_of_main(*factor));
+    }
+    power
+}
+
+/// Whether the variable stands in a term with a power above 0.
+fn has_variable(term: &[PlainFactor]) -> bool
+    ensures { IsTrue result ↔ (variable_power term.now ≢ 0) }
+{
+    for factor in term {
+        if power_of_variable(*factor) != 0 {
+            return true;
+        }
+    }
+    false
+}
+
+#[cfg(test)]
+mod tests;
