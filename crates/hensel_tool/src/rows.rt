@@ -46,6 +46,7 @@ fn powers(alloc: Global, ring: Ring, precision: u32) -> Result<Vec<Part>, OutOfM
     requires { precision ≤ 4095 }
     ensures { IfOk result (λ powers. ArePowers ring (precision + 1) powers.items) }
 {
+    // A ring has a variable at least, which its number of variables tells the proof.
     let _variables = ring.n();
     let x = Part::variable(alloc, ring, 0)?;
     let mut power = Part::constant(alloc, ring, 1)?;
