@@ -1,0 +1,4 @@
+pub mod Triangles
+pub mod PartRows
+pub mod Shares
+pub mod ShiftedRows

@@ -1,0 +1,70 @@
+//! Shifts of rows of parts.
+ghost use Rattle.std.specs.Prelude.{◌≡◌, ◌+◌, ◌<◌, ◌≤◌, length, IfOk};
+ghost use Rattle.parts.specs.Rings.{modulus_of};
+ghost use Rattle.taylor.specs.Shifts.{parts_in, degree_of, AreParts, IsShifted, IsPartOfShift};
+
+use crate::binomials::Binomials;
+use parts::{Accumulator, Part, Ring};
+use ps_model::OutOfMemory;
+use std::alloc::Global;
+use std::sync::Arc;
+
+/// The row of the polynomial with Y + c in place of Y.
+///
+/// `row[j]` belongs to Y^j; all are of one degree, and so is the answer, of the same length. A row
+/// of n parts takes n (n + 1) / 2 multiples of parts.
+pub fn shift(
+    alloc: Global,
+    ring: Ring,
+    table: &Binomials,
+    c: u64,
+    row: &[Arc<Part>],
+) -> Result<Vec<Arc<Part>>, OutOfMemory>
+    requires some { 0 < length row.now }
+    requires short { length row.now ≤ table.now.size + 1 }
+    requires same { table.now.modulus ≡ modulus_of ring }
+    requires residue { c < modulus_of ring }
+    requires parts { AreParts ring (degree_of (parts_in row.now)) (parts_in row.now) }
+    requires low { degree_of (parts_in row.now) ≤ 4095 }
+    ensures length { IfOk result (λ out. length out.items ≡ length row.now) }
+    ensures parts { IfOk result (λ out.
+        AreParts ring (degree_of (parts_in row.now)) (parts_in out.items)) }
+    ensures shifted { IfOk result (λ out.
+        IsShifted ring c (parts_in row.now) (parts_in out.items)) }
+{
+    let mut shifted = Vec::new(alloc);
+    for i in 0..row.len() {
+        let part = shifted_part(alloc, ring, table, c, row, i)?;
+        shifted.push(Arc::new(alloc, part)?)?;
+    }
+    Ok(shifted)
+}
+
+/// The part of Y^i in a shifted row.
+fn shifted_part(
+    alloc: Global,
+    ring: Ring,
+    table: &Binomials,
+    c: u64,
+    row: &[Arc<Part>],
+    i: usize,
+) -> Result<Part, OutOfMemory>
+    requires place { i < length row.now }
+    requires short { length row.now ≤ table.now.size + 1 }
+    requires same { table.now.modulus ≡ modulus_of ring }
+    requires residue { c < modulus_of ring }
+    requires parts { AreParts ring (degree_of (parts_in row.now)) (parts_in row.now) }
+    requires low { degree_of (parts_in row.now) ≤ 4095 }
+    ensures { IfOk result (IsPartOfShift ring c (parts_in row.now) i) }
+{
+    // the sum over j from i on of C(j, i) * c^(j - i) * row[j]
+    let modulus = ring.modulus();
+    let mut sum = Accumulator::new(alloc, ring, row[i].degree());
+    let mut power = 1;
+    for j in i..row.len() {
+        let factor = modulus.mul(table.number(j, i), power);
+        sum.add_scaled(&row[j], factor)?;
+        power = modulus.mul(power, c);
+    }
+    sum.finish()
+}

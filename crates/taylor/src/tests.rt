@@ -1,0 +1,68 @@
+//! Values by hand, and each call that takes memory once on its happy path.
+ghost use Rattle.std.specs.Prelude.{◌≡◌, length, IfOk};
+ghost use Rattle.taylor.specs.Shifts.{parts_in, AreParts};
+
+use crate::{Binomials, SharedBinomials, Table, shift};
+use parts::{Part, Ring};
+use ps_model::OutOfMemory;
+use residue::Modulus;
+use std::alloc::Global;
+use std::sync::Arc;
+use std::test::Fail;
+
+/// A row of constants.
+fn constants(alloc: Global, ring: Ring, numbers: &[u64]) -> Result<Vec<Arc<Part>>, OutOfMemory>
+    ensures length { IfOk result (λ row. length row.items ≡ length numbers.now) }
+    ensures parts { IfOk result (λ row. AreParts ring 0 (parts_in row.items)) }
+{
+    let mut row = Vec::new(alloc);
+    for c in numbers {
+        let part = Part::constant(alloc, ring, *c)?;
+        row.push(Arc::new(alloc, part)?)?;
+    }
+    Ok(row)
+}
+
+#[test]
+fn a_square_is_shifted(rt: HostRuntime) -> Result<(), Fail> {
+    let alloc = rt.alloc();
+    let ring = Ring::new(Modulus::new(7)?, 1);
+    let table = Binomials::new(alloc, ring.modulus(), 2)?;
+    // Y^2 with Y + 3 in place of Y: 9 + 6 Y + Y^2, and 9 leaves 2
+    let row = constants(alloc, ring, &[0, 0, 1])?;
+    let shifted = shift(alloc, ring, &table, 3, &row)?;
+    assert_eq!(rt; shifted.len(), 3);
+    for (part, c) in shifted.iter().zip([2, 6, 1]) {
+        let terms = part.terms();
+        assert_eq!(rt; terms.len(), 1);
+        assert_eq!(rt; terms[0].coefficient, c);
+    }
+    Ok(())
+}
+
+#[test]
+fn a_table_is_made_once(rt: HostRuntime) -> Result<(), Fail> {
+    let shared = SharedBinomials::new(rt.alloc());
+    let seven = Modulus::new(7)?;
+    let nine = Modulus::new(9)?;
+    for size in [4, 3] {
+        let table = shared.table(seven, size)?;
+        assert!(rt;
+            matches!(&table, Table::Shared(_)),
+            "a table of its own at {size}"
+        );
+        assert_eq!(rt; table.binomials().size(), 4);
+    }
+    for (modulus, size) in [(nine, 4), (seven, 5)] {
+        match shared.table(modulus, size)? {
+            Table::Shared(_) => panic!(rt; "a shared table at {size}"),
+            Table::Own { own, found } => {
+                assert_eq!(rt; own.modulus().value(), modulus.value());
+                assert_eq!(rt; own.size(), size);
+                assert_eq!(rt; found.modulus().value(), 7);
+                assert_eq!(rt; found.size(), 4);
+            }
+        }
+    }
+    Ok(())
+}
