@@ -1,65 +1,98 @@
 -- The first fault of a plain script's job, from what was computed.
-use Rattle.std.proofs.Common.{◌≡◌, ◌≢◌, ℕ, ◌%◌, Bool, true, false, List, None, Some, sym, ◌∙◌, ap, subst}
+use Rattle.std.proofs.Common.{◌≡◌, ◌≢◌, ℕ, Bool, true, false, List, map, Option, None, Some, sym, ◌∙◌, ap, subst}
 use Rattle.std.specs.Prelude.{IsTrue, ◌↔◌}
+use Rattle.ps_model.specs.declared.job.Root.{Root}
+use Rattle.ps_model.specs.Factors.{total_times}
 use Rattle.ps_model.specs.Tree.{formal_degree}
 use Rattle.ps_model.specs.Value.{HasLead}
 use Rattle.ps_model.specs.Job.{AreAtOrigin}
-use Rattle.ps_model.specs.Job.{job_ring, series_ring, NotMonic, DegreeMismatch, RootsMismatch, IsFirstFault}
-use Rattle.ps_model.specs.Job.{IsValidJob}
-use Rattle.hensel_tool.specs.declared.script.PlainFactor.{PlainFactor}
+use Rattle.ps_model.specs.Job.{job_ring, series_ring, told_count, NotMonic, DegreeMismatch, NotApart, RootsMismatch}
+use Rattle.ps_model.specs.Job.{IsFault, IsFirstFault, IsValidJob}
+use Rattle.hensel_tool.specs.declared.script.PlainTerm.{PlainTerm}
+use Rattle.hensel_tool.specs.declared.script.PlainRoot.{PlainRoot}
 use Rattle.hensel_tool.specs.declared.origin.Difference.{Difference}
-use Rattle.hensel_tool.specs.Plain.{Plain, plain_job, plain_tree}
+use Rattle.hensel_tool.specs.declared.roots.NearPair.{NearPair}
+use Rattle.hensel_tool.specs.Plain.{Plain, plain_job, plain_tree, root_of}
 use Rattle.hensel_tool.specs.Form.{IsOfForm}
+use Rattle.hensel_tool.specs.Apart.{IsNearPair}
 use Rattle.hensel_tool.specs.Origin.{input_at, IsFirstDifference}
-use Rattle.hensel_tool.proofs.Decided.{plain_terms, at_origin, agree_at, at_least}
-use Rattle.hensel_tool.proofs.PlainFirstFaults.{not_monic, mismatch, roots_differ, all_right}
+use Rattle.hensel_tool.proofs.PlainOrigin.{plain_terms, at_origin, agree_at, at_least}
+use Rattle.hensel_tool.proofs.PlainFirstFaults.{not_monic, told_same, mismatch, not_apart, roots_differ, all_right}
 
 not_both : false ≡ true → ⊥
 not_both e = absurd (cc)
 
-module _ (s : Plain) (form : IsOfForm s) where
+module _ (s : Plain) (form : IsOfForm s) (n : ℕ) (same : n ≡ s.modulus) where
   abbrev lead_is_one : Type 0
   lead_is_one = HasLead (job_ring (plain_job s)) (plain_tree s.terms) 1
 
   -- what the test of the leading number tells
-  pub found_not_monic : (n : ℕ) (ts : List (List PlainFactor)) (b : Bool) → n ≡ s.modulus → ts ≡ s.terms → b ≡ false
+  pub found_not_monic : (ts : List PlainTerm) (b : Bool) → ts ≡ s.terms → b ≡ false
       → (IsTrue b ↔ HasLead (series_ring n) (plain_tree ts) 1) → IsFirstFault (plain_job s) NotMonic
-  found_not_monic n ts b same is other tells = not_monic s form.1.small (λ lead. not_both (sym other
+  found_not_monic ts b is other tells = not_monic s form.1.small (λ lead. not_both (sym other
       ∙ tells.1 (subst (λ k. HasLead (series_ring k) (plain_tree ts) 1) (sym same)
       (subst (λ us. HasLead (series_ring s.modulus) (plain_tree us) 1) (sym is) lead))))
 
-  pub found_monic : (n : ℕ) (ts : List (List PlainFactor)) (b : Bool) → n ≡ s.modulus → ts ≡ s.terms → b ≡ true
+  pub found_monic : (ts : List PlainTerm) (b : Bool) → ts ≡ s.terms → b ≡ true
       → (IsTrue b ↔ HasLead (series_ring n) (plain_tree ts) 1) → lead_is_one
-  found_monic n ts b same is holds tells = subst (λ k. HasLead (series_ring k) (plain_tree s.terms) 1) same
+  found_monic ts b is holds tells = subst (λ k. HasLead (series_ring k) (plain_tree s.terms) 1) same
       (subst (λ us. HasLead (series_ring n) (plain_tree us) 1) is (tells.0 holds))
 
-  -- the degree that was computed
-  pub found_mismatch : (d : ℕ) (ts : List (List PlainFactor)) → lead_is_one → ts ≡ s.terms
-      → d ≡ formal_degree (plain_tree ts) → d ≢ s.times → IsFirstFault (plain_job s) (DegreeMismatch d s.times)
-  found_mismatch d ts lead is degree other =
-      let same = degree ∙ ap (λ us. formal_degree (plain_tree us)) is in
-      subst (λ k. IsFirstFault (plain_job s) (DegreeMismatch k s.times)) (sym same)
-      (mismatch s form.1.small lead form.1.written.times_is.2 (λ e. other (same ∙ e)))
+  -- the roots as residues are those of the job
+  pub the_roots : (given : List PlainRoot) (rs : List Root) → given ≡ s.roots → rs ≡ map (root_of n) given
+      → rs ≡ (plain_job s).roots
+  the_roots given rs is are = are ∙ (λ i. map (root_of (same i)) (is i))
 
-  -- the search for a difference at the origin
-  module _ (n value : ℕ) (same : n ≡ s.modulus) (reduced : value ≡ s.root % n) (lead : lead_is_one)
-      (degree : formal_degree (plain_tree s.terms) ≡ s.times) where
-    at_modulus : (o : _) → IsFirstDifference n s.terms value s.times o
-        → IsFirstDifference s.modulus s.terms (s.root % s.modulus) s.times o
-    at_modulus o h = subst (λ k. IsFirstDifference k s.terms (s.root % k) s.times o) same
-        (subst (λ v. IsFirstDifference n s.terms v s.times o) reduced h)
+  module _ (ts : List PlainTerm) (is : ts ≡ s.terms) (rs : List Root) (are : rs ≡ (plain_job s).roots) (d t : ℕ)
+      (degree : d ≡ formal_degree (plain_tree ts)) (total : t ≡ told_count (total_times rs)) where
+    degree_is : d ≡ formal_degree (plain_tree s.terms)
+    degree_is = degree ∙ ap (λ us. formal_degree (plain_tree us)) is
 
-    pub found_none : IsFirstDifference n s.terms value s.times None → IsValidJob (plain_job s)
-    found_none h = let agree = at_modulus None h in
-        all_right s form.1.small lead degree (λ p. agree_at s (plain_terms form.0 s form.1) p (agree p))
+    total_is : t ≡ told_count (total_times (plain_job s).roots)
+    total_is = total ∙ ap (λ us. told_count (total_times us)) are
 
-    pub found_difference : (d : Difference) → IsFirstDifference n s.terms value s.times (Some d)
-        → IsFirstFault (plain_job s) (RootsMismatch d.power d.input d.roots)
-    found_difference d h =
-        let found = at_modulus (Some d) h in
-        let terms = plain_terms form.0 s form.1 in
-        roots_differ s form.1.small lead degree d.power d.input d.roots
-        (subst (λ k. AreAtOrigin (plain_job s) d.power k d.roots) (sym found.input)
-        (subst (λ k. AreAtOrigin (plain_job s) d.power (input_at s.modulus s.terms d.power) k) (sym found.roots)
-        (at_origin s terms d.power)))
-        found.differ (λ i differ. at_least i d.power (λ lt. agree_at s terms i (found.first i lt) differ))
+    -- the degree and the total that were computed
+    pub found_mismatch : lead_is_one → d ≢ t → IsFirstFault (plain_job s) (DegreeMismatch d t)
+    found_mismatch lead other = subst (λ k. IsFirstFault (plain_job s) (DegreeMismatch k t)) (sym degree_is)
+        (mismatch s form.1.small lead t total_is (λ e. other (degree_is ∙ e)))
+
+    pub found_same : d ≡ t → formal_degree (plain_tree s.terms) ≡ total_times (plain_job s).roots
+    found_same e = told_same s form.1.small t total_is (sym degree_is ∙ e)
+
+  module _ (lead : lead_is_one) (degree : formal_degree (plain_tree s.terms) ≡ total_times (plain_job s).roots)
+      (rs : List Root) (are : rs ≡ (plain_job s).roots) where
+    -- the search for a pair that is too near
+    of_job : (o : Option NearPair) → IsNearPair n rs o → IsNearPair s.modulus (plain_job s).roots o
+    of_job o h = subst (λ k. IsNearPair k (plain_job s).roots o) same (subst (λ us. IsNearPair n us o) are h)
+
+    pub found_near : (pair : NearPair) → IsNearPair n rs (Some pair)
+        → IsFirstFault (plain_job s) (NotApart pair.first pair.second pair.difference pair.gcd)
+    found_near pair h = let found = of_job (Some pair) h in
+        not_apart s form.1.small lead degree pair.first pair.second pair.difference pair.gcd
+        (found.near, found.divisor, found.least)
+
+    pub found_apart : IsNearPair n rs None → (i j d g : ℕ) → IsFault (plain_job s) (NotApart i j d g) → ⊥
+    found_apart h i j d g fault = of_job None h i j d fault.0
+
+    -- the search for a difference at the origin
+    module _ (apart : (i j d g : ℕ) → IsFault (plain_job s) (NotApart i j d g) → ⊥) (ts : List PlainTerm)
+        (is : ts ≡ s.terms) where
+      of_script : (o : Option Difference) → IsFirstDifference n ts rs o
+          → IsFirstDifference s.modulus s.terms (plain_job s).roots o
+      of_script o h = subst (λ k. IsFirstDifference k s.terms (plain_job s).roots o) same
+          (subst (λ us. IsFirstDifference n s.terms us o) are (subst (λ us. IsFirstDifference n us rs o) is h))
+
+      pub found_none : IsFirstDifference n ts rs None → IsValidJob (plain_job s)
+      found_none h = let agree = of_script None h in
+          all_right s form.1.small lead degree apart (λ p. agree_at s (plain_terms form.0 s form.1) p (agree p))
+
+      pub found_difference : (d : Difference) → IsFirstDifference n ts rs (Some d)
+          → IsFirstFault (plain_job s) (RootsMismatch d.power d.input d.roots)
+      found_difference d h =
+          let found = of_script (Some d) h in
+          let terms = plain_terms form.0 s form.1 in
+          roots_differ s form.1.small lead degree apart d.power d.input d.roots
+          (subst (λ k. AreAtOrigin (plain_job s) d.power k d.roots) (sym found.input)
+          (subst (λ k. AreAtOrigin (plain_job s) d.power (input_at s.modulus s.terms d.power) k) (sym found.roots_is)
+          (at_origin s terms d.power)))
+          found.differ (λ i differ. at_least i d.power (λ lt. agree_at s terms i (found.first i lt) differ))

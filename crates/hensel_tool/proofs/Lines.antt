@@ -8,7 +8,7 @@ use Rattle.std.specs.Prelude.{codes}
 use Rattle.hensel_tool.specs.Numbers.{IsNumber, is_name}
 use Rattle.hensel_tool.specs.Plain.{IsRequest, joined}
 use Rattle.hensel_tool.specs.PlainReading.{◌>>=◌, cut_at, strip, is_nothing, number_at_most, FourLines, lines_in}
-use Rattle.hensel_tool.specs.PlainReading.{modulus_in, name_in, root_in, request_in}
+use Rattle.hensel_tool.specs.PlainReading.{modulus_in, name_in, request_in}
 use Rattle.hensel_tool.proofs.Cuts.{IsFree, IsFree-append, cut_same, cut_is, strip_same, strip_is}
 use Rattle.hensel_tool.proofs.Texts.{bind_some, nothing_is, number_is, number_same, digits_free, free_test}
 
@@ -97,48 +97,6 @@ name_is line name h =
 pub name_same : (name : List ℕ) → is_name name ≡ true → name_in (codes "vars " ++ name) ≡ Some name
 unfolding name_in
 name_same name is = rw (strip_same (codes "vars ") name, is) refl
-
--- the root
-pub root_is : (line : List ℕ) (p : ℕ × ℕ) → root_in line ≡ Some p
-    → (root : List ℕ) × (times : List ℕ) × (line ≡ codes "roots " ++ root ++ codes ":" ++ times)
-    × (IsNumber root p.0 × (p.0 < 2 ^ 64)) × (IsNumber times p.1 × (1 ≤ p.1) × (p.1 ≤ 32))
-unfolding root_in
-root_is line p h =
-    let a = bind_some (strip (codes "roots ") line) _ p h in
-    let b = bind_some (cut_at 58 a.0) _ p a.2 in
-    let c = bind_some (number_at_most (2 ^ 64 - 1) b.0.0) _ p b.2 in
-    let d = bind_some (number_at_most 32 b.0.1) _ p c.2 in
-    let e = cond_some (leb 1 d.0) (c.0, d.0) p d.2 in
-    let root = number_is (2 ^ 64 - 1) b.0.0 c.0 c.1 in
-    let times = number_is 32 b.0.1 d.0 d.1 in
-    let small : c.0 ≤ 2 ^ 64 - 1 = root.1 in
-    let P : ℕ × ℕ → Type 0 =
-    λ q. (IsNumber b.0.0 q.0 × (q.0 < 2 ^ 64)) × (IsNumber b.0.1 q.1 × (1 ≤ q.1) × (q.1 ≤ 32)) in
-    let said : P p = subst P e.1 ((root.0, omega arith), (times.0, leb-true 1 d.0 e.0, times.1)) in
-    let text : line ≡ codes "roots " ++ b.0.0 ++ codes ":" ++ b.0.1 =
-    strip_is (codes "roots ") line a.0 a.1 ∙ ap (λ (l : List ℕ). codes "roots " ++ l) (cut_is 58 a.0 b.0 b.1)
-    ∙ grouped (codes "roots ") b.0.0 (codes ":") b.0.1 in
-    (b.0.0, b.0.1, text, said.0, said.1)
-  where
-    grouped : (a b c d : List ℕ) → a ++ (b ++ (c ++ d)) ≡ a ++ b ++ c ++ d
-    grouped a b c d = simp append_assoc
-
-pub root_same : (root times : List ℕ) (n k : ℕ) → IsNumber root n → n < 2 ^ 64 → IsNumber times k → 1 ≤ k → k ≤ 32
-    → root_in (codes "roots " ++ root ++ codes ":" ++ times) ≡ Some (n, k)
-unfolding root_in
-root_same root times n k root_number small times_number one less =
-    ap root_in (grouped (codes "roots ") root (codes ":") times) ∙ parts
-  where
-    grouped : (a b c d : List ℕ) → a ++ b ++ c ++ d ≡ a ++ (b ++ (c ++ d))
-    grouped a b c d = simp append_assoc
-
-    parts : root_in (codes "roots " ++ (root ++ (codes ":" ++ times))) ≡ Some (n, k)
-    parts = rw (
-      cut_same 58 root times (digits_free 58 root n refl root_number),
-      number_same (2 ^ 64 - 1) root n root_number (omega arith),
-      number_same 32 times k times_number less,
-      le-leb 1 k one,
-    ) refl
 
 -- the request
 request_cases : (behind : List ℕ) (r : Option ℕ) (v : Bool) (o : Option (Option ℕ)) → (v ≡ true → behind ≡ [])

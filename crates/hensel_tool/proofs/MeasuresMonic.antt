@@ -6,9 +6,9 @@ use Rattle.std.proofs.lemmas.Bool.Decides.{nat_tests}
 use Rattle.std.proofs.lemmas.List.{at_drop_all}
 use Rattle.ps_model.specs.Value.{HasLead}
 use Rattle.ps_model.specs.Job.{series_ring}
-use Rattle.hensel_tool.specs.declared.script.PlainFactor.{PlainFactor}
+use Rattle.hensel_tool.specs.declared.script.PlainTerm.{PlainTerm}
 use Rattle.hensel_tool.specs.Plain.{plain_tree, variable_power}
-use Rattle.hensel_tool.specs.PlainValue.{coefficient_of, main_power}
+use Rattle.hensel_tool.specs.PlainValue.{main_power, signed_coefficient}
 use Rattle.hensel_tool.specs.Measures.{greatest_main_power, variable_at, coefficient_at}
 use Rattle.hensel_tool.proofs.MeasuresLeads.{lead_known, known_lead}
 use Rattle.hensel_tool.proofs.MeasuresSteps.{next}
@@ -30,30 +30,32 @@ lead_step m a c others = mod-add-mod (a + c % m) m others ∙ ap (λ n. n % m) (
     regroup : (x y z : ℕ) → x + y + z ≡ x + (y + z)
     regroup x y z = omega arith
 
-module _ (d : ℕ) (ts : List (List PlainFactor)) where
-  module _ (i : ℕ) (t : List PlainFactor) (h : i < length ts) (is : t ≡ get_or ts i t) where
+module _ (d : ℕ) (ts : List PlainTerm) where
+  module _ (i : ℕ) (t : PlainTerm) (h : i < length ts) (is : t ≡ get_or ts i t) where
     variable_step : variable_at d (drop i ts)
-        ≡ (if main_power t == d then variable_power t else 0) + variable_at d (drop (i + 1) ts)
+        ≡ (if main_power t.factors == d then variable_power t.factors else 0) + variable_at d (drop (i + 1) ts)
     variable_step = ap (variable_at d) (next ts i t h is)
 
-    coefficient_step : coefficient_at d (drop i ts)
-        ≡ (if main_power t == d then coefficient_of t else 0) + coefficient_at d (drop (i + 1) ts)
-    coefficient_step = ap (coefficient_at d) (next ts i t h is)
+    coefficient_step : (m : ℕ) → coefficient_at m d (drop i ts)
+        ≡ (if main_power t.factors == d then signed_coefficient m t else 0) + coefficient_at m d (drop (i + 1) ts)
+    coefficient_step m = ap (coefficient_at m d) (next ts i t h is)
 
     -- a term with Y^d
-    pub counted_variable : main_power t ≡ d
-        → variable_at d (drop i ts) ≡ variable_power t + variable_at d (drop (i + 1) ts)
-    counted_variable at = variable_step ∙ ap (λ n. n + variable_at d (drop (i + 1) ts)) (taken (main_power t) d _ at)
+    pub counted_variable : main_power t.factors ≡ d
+        → variable_at d (drop i ts) ≡ variable_power t.factors + variable_at d (drop (i + 1) ts)
+    counted_variable at = variable_step
+        ∙ ap (λ n. n + variable_at d (drop (i + 1) ts)) (taken (main_power t.factors) d _ at)
 
-    pub counted_coefficient : (m a : ℕ) → main_power t ≡ d
-        → ((a + coefficient_of t % m) % m + coefficient_at d (drop (i + 1) ts)) % m
-        ≡ (a + coefficient_at d (drop i ts)) % m
-    counted_coefficient m a at = lead_step m a (coefficient_of t) _ ∙ ap (λ n. (a + n) % m)
-        (sym (coefficient_step
-        ∙ ap (λ n. n + coefficient_at d (drop (i + 1) ts)) (taken (main_power t) d (coefficient_of t) at)))
+    pub counted_coefficient : (m a : ℕ) → main_power t.factors ≡ d
+        → ((a + signed_coefficient m t % m) % m + coefficient_at m d (drop (i + 1) ts)) % m
+        ≡ (a + coefficient_at m d (drop i ts)) % m
+    counted_coefficient m a at = lead_step m a (signed_coefficient m t) _ ∙ ap (λ n. (a + n) % m)
+        (sym (coefficient_step m
+        ∙ ap (λ n. n + coefficient_at m d (drop (i + 1) ts))
+        (taken (main_power t.factors) d (signed_coefficient m t) at)))
 
     -- the variable in a term of the formal degree
-    pub unknown : (m l : ℕ) → d ≡ greatest_main_power ts → main_power t ≡ d → variable_power t ≢ 0
+    pub unknown : (m l : ℕ) → d ≡ greatest_main_power ts → main_power t.factors ≡ d → variable_power t.factors ≢ 0
         → variable_at d ts ≡ variable_at d (drop i ts) → HasLead (series_ring m) (plain_tree ts) l → ⊥
     unknown m l top at some left lead =
         let none : variable_at d ts ≡ 0 = ap (λ n. variable_at n ts) top ∙ (lead_known m ts l lead).constant in
@@ -61,16 +63,16 @@ module _ (d : ℕ) (ts : List (List PlainFactor)) where
 
   module _ (m a i : ℕ) (two : 2 ≤ m) (top : d ≡ greatest_main_power ts) (h : length ts ≤ i) (residue : a < m)
       (constant : variable_at d ts ≡ variable_at d (drop i ts))
-      (left : (a + coefficient_at d (drop i ts)) % m ≡ coefficient_at d ts % m) where
+      (left : (a + coefficient_at m d (drop i ts)) % m ≡ coefficient_at m d ts % m) where
     same_modulus : m ≡ max 2 m
     same_modulus = omega arith
 
-    value : a ≡ coefficient_at d ts % m
+    value : a ≡ coefficient_at m d ts % m
     value = sym (mod-eq_of_lt residue)
-        ∙ ap (λ n. n % m) (omega (arith, at_drop_all (coefficient_at d) ts i h)) ∙ left
+        ∙ ap (λ n. n % m) (omega (arith, at_drop_all (coefficient_at m d) ts i h)) ∙ left
 
-    number : coefficient_at d ts % m ≡ coefficient_at (greatest_main_power ts) ts % max 2 m
-    number = λ j. coefficient_at (top j) ts % same_modulus j
+    number : coefficient_at m d ts % m ≡ coefficient_at (max 2 m) (greatest_main_power ts) ts % max 2 m
+    number = λ j. coefficient_at (same_modulus j) (top j) ts % same_modulus j
 
     pub monic : (a == 1) ≡ true → HasLead (series_ring m) (plain_tree ts) 1
     monic test = known_lead m ts 1 (record {

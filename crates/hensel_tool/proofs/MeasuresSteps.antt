@@ -1,6 +1,6 @@
 -- The loops over terms and factors: one item further, and at the end.
-use Rattle.std.proofs.Common.{◌≡◌, ◌≢◌, ℕ, ◌+◌, ◌*◌, ◌%◌, ◌<◌, ◌≤◌, true}
-use Rattle.std.proofs.Common.{List, [], ◌∷◌, length, get_or, drop, max, refl, sym, ◌∙◌, ap, subst, arith, add-one}
+use Rattle.std.proofs.Common.{◌≡◌, ℕ, ◌+◌, ◌*◌, ◌%◌, ◌<◌, ◌≤◌, true, false, if◌then◌else◌}
+use Rattle.std.proofs.Common.{List, ◌∷◌, length, get_or, drop, max, refl, sym, ◌∙◌, ap, subst, arith, add-one}
 use Rattle.std.specs.Prelude.{nat_le, sum_by}
 use Rattle.std.proofs.Math.Seq.{drop-cons}
 use Rattle.std.proofs.lemmas.Nat.{mul-mod_first, mul-mod_second}
@@ -9,9 +9,10 @@ use Rattle.std.proofs.lemmas.List.{at_drop_all}
 use Rattle.std.proofs.lemmas.List.Recursion.{max_bounds}
 use Rattle.std.proofs.lemmas.List.Sums.{get_or-le-sum_by, sum_by-cons}
 use Rattle.hensel_tool.specs.declared.script.PlainFactor.{PlainFactor}
+use Rattle.hensel_tool.specs.declared.script.PlainTerm.{PlainTerm}
 use Rattle.hensel_tool.specs.Plain.{variable_power, IsSmall}
 use Rattle.hensel_tool.specs.PlainValue.{number_in, coefficient_of, main_power}
-use Rattle.hensel_tool.specs.Measures.{greatest_main_power, term_nodes, plain_nodes}
+use Rattle.hensel_tool.specs.Measures.{greatest_main_power, nodes_in, is_product, plain_nodes}
 use Rattle.hensel_tool.specs.Measures.{IsWithinLimits, size_of}
 use Rattle.hensel_tool.proofs.MeasuresTrees.{plain_degree, plain_count}
 
@@ -34,32 +35,30 @@ coefficient_step m p fs i d h = mul-mod_first (p * (number_in (get_or fs i d) % 
     regroup : (a b c : ℕ) → a * b * c ≡ a * (b * c)
     regroup a b c = omega arith
 
-module _ (ts : List (List PlainFactor)) where
+module _ (ts : List PlainTerm) where
   -- a term's measures are within those of the sum
-  main_within : (i : ℕ) (d : List PlainFactor) → i < length ts → main_power (get_or ts i d) ≤ greatest_main_power ts
-  main_within i d h = max_bounds greatest_main_power main_power refl (λ _ _. refl) ts i d h
+  main_within : (i : ℕ) (d : PlainTerm) → i < length ts → main_power (get_or ts i d).factors ≤ greatest_main_power ts
+  main_within i d h = max_bounds greatest_main_power (λ t. main_power t.factors) refl (λ _ _. refl) ts i d h
 
-  nodes_within : (us : List (List PlainFactor)) → sum_by term_nodes us ≤ plain_nodes us
-  nodes_within [] = omega arith
-  nodes_within (t ∷ []) = omega arith
-  nodes_within (t ∷ u ∷ us) = omega arith
+  nodes_within : (us : List PlainTerm) → sum_by nodes_in us ≤ plain_nodes us
+  nodes_within us = omega arith
 
-  pub sum_within : IsSmall ts → sum_by term_nodes ts ≤ 4096
+  pub sum_within : IsSmall ts → sum_by nodes_in ts ≤ 4096
   sum_within h = let few : plain_nodes ts ≤ 4096 = subst (λ n. n ≤ 4096) (plain_count ts) h.nodes in
       omega (arith, nodes_within ts)
 
   pub low : IsSmall ts → greatest_main_power ts ≤ 32
   low h = subst (λ n. n ≤ 32) (plain_degree ts) h.degree
 
-  pub small_term : (i : ℕ) (t : List PlainFactor) → i < length ts → t ≡ get_or ts i t → IsSmall ts
-      → IsWithinLimits (size_of t)
-  small_term i t h is all = subst (λ u. IsWithinLimits (size_of u)) (sym is) (record {
+  pub small_term : (i : ℕ) (t : PlainTerm) → i < length ts → t ≡ get_or ts i t → IsSmall ts
+      → IsWithinLimits (size_of t.factors)
+  small_term i t h is all = subst (λ (u : PlainTerm). IsWithinLimits (size_of u.factors)) (sym is) (record {
     variable = all.powers i t h;
     degree = omega (arith, main_within i t h, low all);
-    nodes = omega (arith, get_or-le-sum_by term_nodes ts i t h, sum_within all);
+    nodes = omega (arith, get_or-le-sum_by nodes_in ts i t h, sum_within all);
   })
 
-  pub small : ((k : ℕ) (d : List PlainFactor) → k < length ts → variable_power (get_or ts k d) ≤ 4095)
+  pub small : ((k : ℕ) (d : PlainTerm) → k < length ts → variable_power (get_or ts k d).factors ≤ 4095)
       → greatest_main_power ts ≤ 32 → plain_nodes ts ≤ 4096 → IsSmall ts
   small powers degree nodes = record {
     powers = powers;
@@ -67,37 +66,33 @@ module _ (ts : List (List PlainFactor)) where
     nodes = subst (λ n. n ≤ 4096) (sym (plain_count ts)) nodes;
   }
 
-pub nodes_of_one : (ts : List (List PlainFactor)) → length ts ≡ 1 → plain_nodes ts ≡ sum_by term_nodes ts
-nodes_of_one [] h = absurd (omega arith)
-nodes_of_one (t ∷ []) h = omega arith
-nodes_of_one (t ∷ u ∷ ts) h = absurd (omega arith)
+pub nodes_of_one : (ts : List PlainTerm) → is_product ts ≡ true → plain_nodes ts ≡ sum_by nodes_in ts
+nodes_of_one ts is = ap (λ b. sum_by nodes_in ts + (if b then 0 else greatest_main_power ts + 1)) is ∙ omega arith
 
-pub nodes_of_several : (ts : List (List PlainFactor)) → length ts ≢ 1
-    → plain_nodes ts ≡ sum_by term_nodes ts + greatest_main_power ts + 1
-nodes_of_several [] h = refl
-nodes_of_several (t ∷ []) h = absurd (h refl)
-nodes_of_several (t ∷ u ∷ ts) h = refl
+pub nodes_of_several : (ts : List PlainTerm) → is_product ts ≡ false
+    → plain_nodes ts ≡ sum_by nodes_in ts + greatest_main_power ts + 1
+nodes_of_several ts is = ap (λ b. sum_by nodes_in ts + (if b then 0 else greatest_main_power ts + 1)) is ∙ omega arith
 
 -- no term is left
-pub all_nodes : (ts : List (List PlainFactor)) (i n : ℕ) → length ts ≤ i
-    → n + sum_by term_nodes (drop i ts) ≡ sum_by term_nodes ts → n ≡ sum_by term_nodes ts
-all_nodes ts i n h is = omega (arith, at_drop_all (sum_by term_nodes) ts i h)
+pub all_nodes : (ts : List PlainTerm) (i n : ℕ) → length ts ≤ i
+    → n + sum_by nodes_in (drop i ts) ≡ sum_by nodes_in ts → n ≡ sum_by nodes_in ts
+all_nodes ts i n h is = omega (arith, at_drop_all (sum_by nodes_in) ts i h)
 
-pub all_degrees : (ts : List (List PlainFactor)) (i n : ℕ) → length ts ≤ i
+pub all_degrees : (ts : List PlainTerm) (i n : ℕ) → length ts ≤ i
     → max n (greatest_main_power (drop i ts)) ≡ greatest_main_power ts → n ≡ greatest_main_power ts
 all_degrees ts i n h is = omega (arith, at_drop_all greatest_main_power ts i h)
 
 -- the nodes so far and those of the next term are more than a small sum has
-pub too_many : (ts : List (List PlainFactor)) (i : ℕ) (t : List PlainFactor) (n : ℕ) → i < length ts
-    → t ≡ get_or ts i t → n + sum_by term_nodes (drop i ts) ≡ sum_by term_nodes ts → 4096 < n + term_nodes t
+pub too_many : (ts : List PlainTerm) (i : ℕ) (t : PlainTerm) (n : ℕ) → i < length ts
+    → t ≡ get_or ts i t → n + sum_by nodes_in (drop i ts) ≡ sum_by nodes_in ts → 4096 < n + nodes_in t
     → IsSmall ts → ⊥
 too_many ts i t n h is left many all =
-    let more : sum_by term_nodes (drop i ts) ≡ term_nodes t + sum_by term_nodes (drop (i + 1) ts) =
-    ap (sum_by term_nodes) (next ts i t h is) ∙ sum_by-cons term_nodes t (drop (i + 1) ts) in
+    let more : sum_by nodes_in (drop i ts) ≡ nodes_in t + sum_by nodes_in (drop (i + 1) ts) =
+    ap (sum_by nodes_in) (next ts i t h is) ∙ sum_by-cons nodes_in t (drop (i + 1) ts) in
     omega (arith, sum_within ts all)
 
 -- the test of several terms' nodes
-pub nodes_fit : (ts : List (List PlainFactor)) (n d : ℕ) → length ts ≢ 1 → n ≡ sum_by term_nodes ts
+pub nodes_fit : (ts : List PlainTerm) (n d : ℕ) → is_product ts ≡ false → n ≡ sum_by nodes_in ts
     → d ≡ greatest_main_power ts → nat_le (n + d + 1) 4096 ≡ true → plain_nodes ts ≤ 4096
 nodes_fit ts n d several nodes degree test =
     let few : n + d + 1 ≤ 4096 = told (n + d + 1) test in
@@ -106,7 +101,7 @@ nodes_fit ts n d several nodes degree test =
     told : (a : ℕ) → nat_le a 4096 ≡ true → a ≤ 4096
     told a h = grind (arith, nat_tests)
 
-pub fitting_nodes : (ts : List (List PlainFactor)) (n d : ℕ) → length ts ≢ 1 → n ≡ sum_by term_nodes ts
+pub fitting_nodes : (ts : List PlainTerm) (n d : ℕ) → is_product ts ≡ false → n ≡ sum_by nodes_in ts
     → d ≡ greatest_main_power ts → IsSmall ts → nat_le (n + d + 1) 4096 ≡ true
 fitting_nodes ts n d several nodes degree all =
     let few : plain_nodes ts ≤ 4096 = subst (λ n. n ≤ 4096) (plain_count ts) all.nodes in

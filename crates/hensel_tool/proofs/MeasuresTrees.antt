@@ -1,11 +1,10 @@
 -- The trees of plain polynomials: their degree and their nodes, from the terms.
-use Rattle.std.proofs.Common.{◌≡◌, ℕ, zero, suc, ◌+◌, ◌*◌, ◌/◌, ◌<◌, false, List, [], ◌∷◌, map, max}
+use Rattle.std.proofs.Common.{◌≡◌, ℕ, zero, suc, ◌+◌, ◌*◌, ◌/◌, ◌<◌, true, false, List, [], ◌∷◌, map, max}
 use Rattle.std.proofs.Common.{refl, sym, ◌∙◌, ap, arith}
-use Rattle.std.specs.Prelude.{◌==◌, if◌then◌else◌, sum_by}
+use Rattle.std.specs.Prelude.{◌==◌, if◌then◌else◌, not, sum_by}
 use Rattle.std.proofs.lemmas.Bool.Decides.{nat_tests}
 use Rattle.std.proofs.lemmas.List.Sums.{sum_by-cons}
 use Rattle.ps_model.specs.declared.expr.Expr.{Sum, Product}
-use Rattle.ps_model.specs.declared.expr.Summand.{Summand}
 use Rattle.ps_model.specs.declared.expr.Factor.{Factor}
 use Rattle.ps_model.specs.declared.expr.Expr.TheBlock.{hidden-the_row-Summand-0, shape-the_row-Summand-0}
 use Rattle.ps_model.specs.declared.expr.Expr.TheBlock.{hidden-the_row-Factor-1, shape-the_row-Factor-1}
@@ -14,16 +13,16 @@ use denote.Hole.Carrier.{hidden}
 use Rattle.ps_model.specs.Tree.{formal_degree, node_count, power_nodes, later_nodes, summand_nodes}
 use Rattle.hensel_tool.specs.declared.script.PlainFactor.{PlainFactor}
 use Rattle.hensel_tool.specs.declared.script.PlainFactor.TheVariants as factor
-use Rattle.hensel_tool.specs.Plain.{factor_tree, term_tree, plain_tree}
+use Rattle.hensel_tool.specs.declared.script.PlainTerm.{PlainTerm}
+use Rattle.hensel_tool.specs.Plain.{factor_tree, term_tree, plain_tree, summand_of}
 use Rattle.hensel_tool.specs.PlainValue.{main_power, power_of_main}
-use Rattle.hensel_tool.specs.Measures.{greatest_main_power, factor_nodes, nodes_behind, term_nodes, plain_nodes}
+use Rattle.hensel_tool.specs.Measures.{greatest_main_power, factor_nodes, nodes_behind, term_nodes, nodes_in}
+use Rattle.hensel_tool.specs.Measures.{plain_nodes}
+use Rattle.hensel_tool.proofs.Signs.{one_term}
 
--- the factors and the summands of the trees
+-- the factors of the trees
 abbrev pub as_factor : PlainFactor → Factor
 as_factor f = record { divide = false; of = factor_tree f }
-
-abbrev pub as_summand : List PlainFactor → Summand
-as_summand t = record { minus = false; of = term_tree t }
 
 pub factor_degree : (f : PlainFactor) → formal_degree (factor_tree f) ≡ power_of_main f
 unfolding hidden-the_row-Expr-2 hidden
@@ -43,14 +42,15 @@ term_degree [] = product_degree []
 term_degree (f ∷ []) = factor_degree f ∙ omega arith
 term_degree (f ∷ g ∷ fs) = product_degree (f ∷ g ∷ fs)
 
-pub sum_degree : (ts : List (List PlainFactor)) → formal_degree (Sum (map as_summand ts)) ≡ greatest_main_power ts
+pub sum_degree : (ts : List PlainTerm) → formal_degree (Sum (map summand_of ts)) ≡ greatest_main_power ts
 unfolding hidden-the_row-Summand-0 shape-the_row-Summand-0 hidden
 sum_degree [] = refl
-sum_degree (t ∷ ts) = λ i. max (term_degree t i) (sum_degree ts i)
+sum_degree (t ∷ ts) = λ i. max (term_degree t.factors i) (sum_degree ts i)
 
-pub plain_degree : (ts : List (List PlainFactor)) → formal_degree (plain_tree ts) ≡ greatest_main_power ts
+pub plain_degree : (ts : List PlainTerm) → formal_degree (plain_tree ts) ≡ greatest_main_power ts
 plain_degree [] = sum_degree []
-plain_degree (t ∷ []) = term_degree t ∙ omega arith
+plain_degree (t ∷ []) = one_term (λ e. formal_degree e ≡ greatest_main_power (t ∷ [])) t (sum_degree (t ∷ []))
+    (λ _. term_degree t.factors ∙ omega arith)
 plain_degree (t ∷ u ∷ ts) = sum_degree (t ∷ u ∷ ts)
 
 -- Y^E has 2 nodes and i + 1 for each i from 2 to E
@@ -99,17 +99,22 @@ term_count [] = product_count []
 term_count (f ∷ []) = factor_count f ∙ omega arith
 term_count (f ∷ g ∷ fs) = product_count (f ∷ g ∷ fs)
 
-summands_count : (ts : List (List PlainFactor)) → summand_nodes (hidden-the_row-Summand-0 (map as_summand ts))
-    ≡ sum_by term_nodes ts
+summands_count : (ts : List PlainTerm) → summand_nodes (hidden-the_row-Summand-0 (map summand_of ts))
+    ≡ sum_by nodes_in ts
 unfolding hidden-the_row-Summand-0 shape-the_row-Summand-0 hidden
 summands_count [] = refl
-summands_count (t ∷ ts) = (λ i. term_count t i + summands_count ts i) ∙ sym (sum_by-cons term_nodes t ts)
+summands_count (t ∷ ts) = (λ i. term_count t.factors i + summands_count ts i) ∙ sym (sum_by-cons nodes_in t ts)
 
-sum_count : (ts : List (List PlainFactor)) → node_count (Sum (map as_summand ts))
-    ≡ sum_by term_nodes ts + greatest_main_power ts + 1
-sum_count ts = λ i. summands_count ts i + sum_degree ts i + 1
+sum_count : (ts : List PlainTerm) → node_count (Sum (map summand_of ts))
+    ≡ sum_by nodes_in ts + (greatest_main_power ts + 1)
+sum_count ts = (λ i. summands_count ts i + sum_degree ts i + 1) ∙ omega arith
 
-pub plain_count : (ts : List (List PlainFactor)) → node_count (plain_tree ts) ≡ plain_nodes ts
+pub plain_count : (ts : List PlainTerm) → node_count (plain_tree ts) ≡ plain_nodes ts
 plain_count [] = sum_count []
-plain_count (t ∷ []) = term_count t
+plain_count (t ∷ []) =
+    elim t.minus as (λ b. node_count (if b then Sum (summand_of t ∷ []) else term_tree t.factors)
+    ≡ sum_by nodes_in (t ∷ []) + (if not b then 0 else greatest_main_power (t ∷ []) + 1)) [
+      | true ↦ sum_count (t ∷ [])
+      | false ↦ term_count t.factors ∙ omega arith
+    ]
 plain_count (t ∷ u ∷ ts) = sum_count (t ∷ u ∷ ts)

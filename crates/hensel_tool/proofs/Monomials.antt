@@ -1,14 +1,15 @@
--- Monomials: their products and sums, truncations of products and powers, and formal sums entry by entry.
-use Rattle.std.proofs.Common.{◌≡◌, ℕ, zero, suc, ◌+◌, ◌*◌, ◌%◌, Bool, false, cond, List, [], ◌∷◌, refl, sym, ◌∙◌}
+-- Monomials: their products, sums and negatives, truncations of products and powers, and formal sums entry by entry.
+use Rattle.std.proofs.Common.{◌≡◌, ℕ, zero, suc, ◌+◌, ◌-◌, ◌*◌, ◌%◌, Bool, false, cond, List, [], ◌∷◌, refl, sym, ◌∙◌}
 use Rattle.std.proofs.Common.{ap, arith}
 use Rattle.std.proofs.Math.Nat.{add-mod-mod, mod-add-mod}
 use Rattle.std.proofs.lemmas.Nat.{mul-mod_first}
 use Rattle.ps_model.specs.Ring.{Ring}
-use Rattle.ps_model.specs.Polynomial.{Polynomial, polynomial, zero as nought, monomial, sum, product, power}
+use Rattle.ps_model.specs.Polynomial.{Polynomial, polynomial, zero as nought, monomial, sum, negative, product, power}
 use Rattle.ps_model.specs.Polynomial.{kept_terms}
 use Rattle.ps_model.specs.Truncation.{truncated}
 use Rattle.ps_model.proofs.Coefficients.{same_values}
 use Rattle.ps_model.proofs.Values.{linear_form-nil, linear_form-monomial, linear_form-sum, linear_form-product}
+use Rattle.ps_model.proofs.Values.{linear_form-scaled}
 use Rattle.ps_model.proofs.Values.{linear_form-kept_terms}
 use Rattle.ps_model.proofs.RingLaws.{mul-mod_last}
 use Rattle.ps_model.proofs.FormalSums.{monomial_listed, sum_listed}
@@ -25,6 +26,15 @@ module _ (R : Ring) where
   monomials-sum a b x = same_values R _ _
       (λ f. simp (linear_form-sum, linear_form-monomial, add-mod-mod, mod-add-mod)
       (ap (λ n. n % R.modulus) (omega arith)))
+
+  pub monomials-negative : (c : ℕ) (x : R.Key) → negative R (monomial R c x) ≡ monomial R ((R.modulus - 1) * c) x
+  unfolding negative
+  monomials-negative c x = same_values R _ _
+      (λ f. simp (linear_form-scaled, linear_form-monomial, mul-mod_last)
+      (ap (λ n. n % R.modulus) (regroup (R.modulus - 1) c (f x))))
+    where
+      regroup : (k c v : ℕ) → k * (c * v) ≡ k * c * v
+      regroup k c v = omega arith
 
   pub monomial-mod : (a : ℕ) (x : R.Key) → monomial R (a % R.modulus) x ≡ monomial R a x
   monomial-mod a x = same_values R _ _

@@ -20,9 +20,10 @@ use Rattle.ps_model.proofs.Coefficients.{coefficient-linear_form, above_zero}
 use Rattle.ps_model.proofs.Values.{linear_form-none, linear_form-one, linear_form-product}
 use Rattle.ps_model.proofs.Evaluated.{cut, truncated_listed}
 use Rattle.ps_model.proofs.AtOrigin.{linear_entries, linear_listed}
-use Rattle.hensel_tool.specs.declared.script.PlainFactor.{PlainFactor}
+use Rattle.hensel_tool.specs.declared.script.PlainTerm.{PlainTerm}
 use Rattle.hensel_tool.specs.Plain.{variable_power}
-use Rattle.hensel_tool.specs.PlainValue.{coefficient_of, main_power, term_key, term_entry, plain_polynomial}
+use Rattle.hensel_tool.specs.PlainValue.{main_power, signed_coefficient, term_key, term_entry}
+use Rattle.hensel_tool.specs.PlainValue.{plain_polynomial}
 use Rattle.hensel_tool.proofs.OriginTerms.{shares, lower, test_true}
 
 same_bools : (x y : Bool) → (x ≡ true → y ≡ true) → (y ≡ true → x ≡ true) → x ≡ y
@@ -181,18 +182,19 @@ module _ (S : SeriesRing) where
   weighed true false d c e = rw (← e) (omega arith)
   weighed false b d c e = rw (← e) (omega arith)
 
-  total_shares : 0 < S.variables → (p : ℕ) (ts : List (List PlainFactor))
-      → total (weight p) (map (term_entry S.variables) ts) ≡ shares p ts
+  total_shares : 0 < S.variables → (p : ℕ) (ts : List PlainTerm)
+      → total (weight p) (map (term_entry S) ts) ≡ shares S.modulus p ts
   unfolding weight at_degree_0 at_y
   total_shares some p [] = refl
   total_shares some p (t ∷ ts) = λ i.
-      weighed (at_degree_0 (variable_power t) (main_power t)) (at_y (variable_power t) (main_power t) p) _
-      (coefficient_of t) (counted (variable_power t) (main_power t) p some) i + total_shares some p ts i
+      weighed (at_degree_0 (variable_power t.factors) (main_power t.factors))
+      (at_y (variable_power t.factors) (main_power t.factors) p) _ (signed_coefficient S.modulus t)
+      (counted (variable_power t.factors) (main_power t.factors) p some) i + total_shares some p ts i
 
   -- the coefficient of Y^p of the terms at the origin
-  pub at_origin_shares : 0 < S.variables → (p : ℕ) (ts : List (List PlainFactor))
-      → y_coefficient (truncated (ring S) (degree S) 0 (plain_polynomial S ts)) p ≡ shares p ts % S.modulus
+  pub at_origin_shares : 0 < S.variables → (p : ℕ) (ts : List PlainTerm)
+      → y_coefficient (truncated (ring S) (degree S) 0 (plain_polynomial S ts)) p ≡ shares S.modulus p ts % S.modulus
   unfolding weight
-  at_origin_shares some p ts = ap (λ q. y_coefficient q p) (truncated_listed S 0 (map (term_entry S.variables) ts))
-      ∙ coefficient-polynomial (ring S) (cut S 0 (map (term_entry S.variables) ts)) (y_key S.variables p)
-      ∙ ap (λ n. n % S.modulus) (total-kept _ _ (map (term_entry S.variables) ts) ∙ total_shares some p ts)
+  at_origin_shares some p ts = ap (λ q. y_coefficient q p) (truncated_listed S 0 (map (term_entry S) ts))
+      ∙ coefficient-polynomial (ring S) (cut S 0 (map (term_entry S) ts)) (y_key S.variables p)
+      ∙ ap (λ n. n % S.modulus) (total-kept _ _ (map (term_entry S) ts) ∙ total_shares some p ts)

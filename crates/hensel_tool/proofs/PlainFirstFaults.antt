@@ -8,12 +8,15 @@ use Rattle.ps_model.specs.declared.job.JobData.{JobData}
 use Rattle.ps_model.specs.Factors.{total_times}
 use Rattle.ps_model.specs.Tree.{formal_degree, divisors, summand_divisors, factor_divisors}
 use Rattle.ps_model.specs.Value.{HasLead}
-use Rattle.ps_model.specs.Job.{job_ring, told_count, AreAtOrigin, DifferAt, IsFirstFault, IsValidJob}
-use Rattle.ps_model.specs.Job.{NotMonic, DegreeMismatch, RootsMismatch}
-use Rattle.ps_model.proofs.FaultOrder.{no_division_by_y, no_pair, first_not_monic, first_mismatch, first_roots, valid}
+use Rattle.ps_model.specs.Job.{job_ring, told_count, AreAtOrigin, DifferAt, IsFault, IsFirstFault, IsValidJob}
+use Rattle.ps_model.specs.Job.{NotMonic, DegreeMismatch, NotApart, RootsMismatch}
+use Rattle.ps_model.proofs.FaultOrder.{no_division_by_y, first_not_monic, first_mismatch, first_not_apart}
+use Rattle.ps_model.proofs.FaultOrder.{first_roots, valid}
 use Rattle.hensel_tool.specs.declared.script.PlainFactor.{PlainFactor}
 use Rattle.hensel_tool.specs.declared.script.PlainFactor.TheVariants as factor
-use Rattle.hensel_tool.specs.Plain.{Plain, IsSmall, factor_tree, term_tree, plain_tree, plain_job}
+use Rattle.hensel_tool.specs.declared.script.PlainTerm.{PlainTerm}
+use Rattle.hensel_tool.specs.Plain.{Plain, IsSmall, factor_tree, term_tree, plain_tree, plain_job, summand_of}
+use Rattle.hensel_tool.proofs.Signs.{one_term}
 
 -- no division stands in the tree
 divisors_of_factor : (f : PlainFactor) → divisors (factor_tree f) ≡ []
@@ -36,20 +39,25 @@ divisors_of_term [] = refl
 divisors_of_term (f ∷ []) = divisors_of_factor f
 divisors_of_term (f ∷ g ∷ fs) = divisors_of_factors (f ∷ g ∷ fs)
 
-divisors_of_sum : (ts : List (List PlainFactor)) → summand_divisors
-    (hidden-the_row-Summand-0 (map (λ t. record { minus = false; of = term_tree t }) ts)) ≡ []
+divisors_of_sum : (ts : List PlainTerm) → summand_divisors
+    (hidden-the_row-Summand-0 (map summand_of ts)) ≡ []
 unfolding hidden-the_row-Summand-0 shape-the_row-Summand-0 hidden
 divisors_of_sum [] = refl
-divisors_of_sum (t ∷ ts) = λ i. divisors_of_term t i ++ divisors_of_sum ts i
+divisors_of_sum (t ∷ ts) = λ i. divisors_of_term t.factors i ++ divisors_of_sum ts i
 
-plain_divisors : (ts : List (List PlainFactor)) → divisors (plain_tree ts) ≡ []
+plain_divisors : (ts : List PlainTerm) → divisors (plain_tree ts) ≡ []
 unfolding hidden-the_row-Summand-0 shape-the_row-Summand-0 hidden
 plain_divisors [] = refl
-plain_divisors (t ∷ []) = divisors_of_term t
+plain_divisors (t ∷ []) =
+    one_term (λ e. divisors e ≡ []) t (divisors_of_sum (t ∷ [])) (λ _. divisors_of_term t.factors)
 plain_divisors (t ∷ u ∷ ts) = divisors_of_sum (t ∷ u ∷ ts)
 
+-- a small count is told as it is, and is the count where it is told
 told_small : (n : ℕ) → n ≤ 32 → n ≡ told_count n
 told_small n small = omega arith
+
+told_as : (n t : ℕ) → n ≤ 32 → n ≡ told_count t → n ≡ t
+told_as n t small is = omega arith
 
 module _ (s : Plain) (small : IsSmall s.terms) where
   abbrev the_job : JobData
@@ -62,30 +70,35 @@ module _ (s : Plain) (small : IsSmall s.terms) where
   not_monic other = first_not_monic the_job (no_division_by_y the_job (plain_divisors s.terms)) small.nodes
       small.degree other
 
+  -- where the degree is the total as it is told, it is the total
+  pub told_same : (total : ℕ) → total ≡ told_count (total_times the_job.roots) → tree_degree ≡ total
+      → tree_degree ≡ total_times the_job.roots
+  told_same total told same = told_as tree_degree (total_times the_job.roots) small.degree (same ∙ told)
+
   module _ (lead : HasLead (job_ring the_job) (plain_tree s.terms) 1) where
-    pub mismatch : s.times ≤ 32 → tree_degree ≢ s.times → IsFirstFault the_job (DegreeMismatch tree_degree s.times)
-    mismatch few other = first_mismatch the_job (no_division_by_y the_job (plain_divisors s.terms)) small.nodes
+    pub mismatch : (total : ℕ) → total ≡ told_count (total_times the_job.roots) → tree_degree ≢ total
+        → IsFirstFault the_job (DegreeMismatch tree_degree total)
+    mismatch total told other = first_mismatch the_job (no_division_by_y the_job (plain_divisors s.terms)) small.nodes
         small.degree lead
-        (plain_divisors s.terms) tree_degree s.times (
-          λ e. other (e ∙ all_times),
+        (plain_divisors s.terms) tree_degree total (
+          λ e. other (told_small tree_degree small.degree ∙ ap told_count e ∙ sym told),
           told_small tree_degree small.degree,
-          told_small s.times few ∙ ap told_count (sym all_times),
+          told,
         )
-      where
-        all_times : total_times the_job.roots ≡ s.times
-        all_times = omega arith
 
-    module _ (same : tree_degree ≡ s.times) where
-      all_times : tree_degree ≡ total_times the_job.roots
-      all_times = same ∙ omega arith
+    module _ (same : tree_degree ≡ total_times the_job.roots) where
+      pub not_apart : (i j d g : ℕ) → IsFault the_job (NotApart i j d g) → IsFirstFault the_job (NotApart i j d g)
+      not_apart = first_not_apart the_job (no_division_by_y the_job (plain_divisors s.terms)) small.nodes small.degree
+          lead (plain_divisors s.terms) same
 
-      pub roots_differ : (p input roots : ℕ) → AreAtOrigin the_job p input roots → input ≢ roots
-          → ((i : ℕ) → DifferAt the_job i → p ≤ i) → IsFirstFault the_job (RootsMismatch p input roots)
-      roots_differ p input roots at differ least =
-          first_roots the_job (no_division_by_y the_job (plain_divisors s.terms))
-          small.nodes small.degree lead (plain_divisors s.terms) all_times
-          (no_pair s.modulus (plain_tree s.terms) _) p input roots (at, ((input, roots, at, differ), least))
+      module _ (apart : (i j d g : ℕ) → IsFault the_job (NotApart i j d g) → ⊥) where
+        pub roots_differ : (p input roots : ℕ) → AreAtOrigin the_job p input roots → input ≢ roots
+            → ((i : ℕ) → DifferAt the_job i → p ≤ i) → IsFirstFault the_job (RootsMismatch p input roots)
+        roots_differ p input roots at differ least =
+            first_roots the_job (no_division_by_y the_job (plain_divisors s.terms))
+            small.nodes small.degree lead (plain_divisors s.terms) same apart p input roots
+            (at, ((input, roots, at, differ), least))
 
-      pub all_right : ((p : ℕ) → DifferAt the_job p → ⊥) → IsValidJob the_job
-      all_right agree = valid the_job (no_division_by_y the_job (plain_divisors s.terms)) small.nodes small.degree lead
-          (plain_divisors s.terms) all_times (no_pair s.modulus (plain_tree s.terms) _) agree
+        pub all_right : ((p : ℕ) → DifferAt the_job p → ⊥) → IsValidJob the_job
+        all_right agree = valid the_job (no_division_by_y the_job (plain_divisors s.terms)) small.nodes small.degree
+            lead (plain_divisors s.terms) same apart agree

@@ -1,8 +1,8 @@
 -- The value of a plain script's tree: the polynomial of its terms, up to a degree, and no other.
-use Rattle.std.proofs.Common.{length, ◌<◌, ◌≡◌, ◌≢◌, ℕ, zero, suc, ◌+◌, ◌*◌, T, false, List, [], ◌∷◌, map, refl}
-use Rattle.std.proofs.Common.{sym, ◌∙◌, ap, subst, arith}
+use Rattle.std.proofs.Common.{length, ◌<◌, ◌≡◌, ◌≢◌, ℕ, zero, suc, ◌+◌, ◌*◌, T, Bool, true, false, List, [], ◌∷◌, map}
+use Rattle.std.proofs.Common.{refl, sym, ◌∙◌, ap, subst, arith}
 use Rattle.std.specs.List.{All}
-use Rattle.std.specs.Prelude.{slice_index_or}
+use Rattle.std.specs.Prelude.{slice_index_or, if◌then◌else◌}
 use Rattle.std.proofs.lemmas.List.Sums.{sum_by-cons}
 use Rattle.ps_model.specs.declared.expr.Expr.TheBlock.{hidden-the_row-Summand-0, shape-the_row-Summand-0}
 use Rattle.ps_model.specs.declared.expr.Expr.TheBlock.{hidden-the_row-Factor-1, shape-the_row-Factor-1}
@@ -10,63 +10,69 @@ use Rattle.ps_model.specs.declared.expr.Expr.TheBlock.{hidden-the_row-Expr-2}
 use denote.Hole.Carrier.{hidden}
 use Rattle.ps_model.specs.declared.expr.Summand.{Summand}
 use Rattle.ps_model.specs.declared.expr.Factor.{Factor}
-use Rattle.ps_model.specs.Keys.{powers_of, no_powers, add_powers, add_keys, y_key}
-use Rattle.ps_model.specs.Polynomial.{one, monomial, product, power}
+use Rattle.ps_model.specs.Keys.{Key, powers_of, no_powers, add_powers, add_keys, y_key}
+use Rattle.ps_model.specs.Polynomial.{one, monomial, sum, negative, product, power}
 use Rattle.ps_model.specs.Truncation.{truncated}
 use Rattle.ps_model.specs.SeriesRing.{SeriesRing, ring, degree, Poly}
 use Rattle.ps_model.specs.Value.{variable_key, IsValue, IsSumValue, IsLaterValue}
 use Rattle.ps_model.specs.KeyLaws.{no_powers-add}
-use Rattle.ps_model.proofs.KeptTerms.{kept_terms-zero}
+use Rattle.ps_model.proofs.KeptTerms.{kept_terms-zero, kept_terms-scaled}
 use Rattle.ps_model.proofs.Truncations.{truncated-sum}
 use Rattle.ps_model.proofs.FormalSums.{zero_listed, monomial_listed}
 use Rattle.ps_model.proofs.Evaluated.{undivided, undivided_summands, undivided_factors, only_value}
 use Rattle.ps_model.proofs.Maps.{both}
 use Rattle.hensel_tool.specs.declared.script.PlainFactor.{PlainFactor}
 use Rattle.hensel_tool.specs.declared.script.PlainFactor.TheVariants as factor
-use Rattle.hensel_tool.specs.Plain.{Each, IsTermText, IsSumText}
+use Rattle.hensel_tool.specs.declared.script.PlainTerm.{PlainTerm}
+use Rattle.hensel_tool.specs.Plain.{Each, IsNextText, IsSumText, summand_of}
 use Rattle.hensel_tool.specs.Plain.{factor_tree, term_tree, plain_tree, power_of_variable, variable_power}
 use Rattle.hensel_tool.specs.PlainValue.{number_in, coefficient_of, power_of_main, main_power, term_key, term_entry}
-use Rattle.hensel_tool.specs.PlainValue.{plain_polynomial}
-use Rattle.hensel_tool.proofs.Monomials.{monomials-product, polynomial-cons, truncated-products, truncated-powers}
+use Rattle.hensel_tool.specs.PlainValue.{sign_of, signed_coefficient, plain_polynomial}
+use Rattle.hensel_tool.proofs.Monomials.{monomials-product, monomials-negative, polynomial-cons}
+use Rattle.hensel_tool.proofs.Monomials.{truncated-products, truncated-powers}
+use Rattle.hensel_tool.proofs.Signs.{one_term}
 
 -- a sum of one term or more, each with one factor or more
-pub record AreTerms (ts : List (List PlainFactor)) : Type 0 where
+pub record AreTerms (ts : List PlainTerm) : Type 0 where
   pub some : ts ≢ []
-  pub filled : All (λ t. t ≢ []) ts
+  pub filled : All (λ (t : PlainTerm). t.factors ≢ []) ts
 
 -- the same of each term, by recursion
-abbrev pub AreFilled : List (List PlainFactor) → Type 0
+abbrev pub AreFilled : List PlainTerm → Type 0
 AreFilled [] = Unit {0}
-AreFilled (t ∷ ts) = (t ≢ []) × AreFilled ts
+AreFilled (t ∷ ts) = (t.factors ≢ []) × AreFilled ts
 
-pub are_filled : (ts : List (List PlainFactor)) → All (λ t. t ≢ []) ts → AreFilled ts
+pub are_filled : (ts : List PlainTerm) → All (λ (t : PlainTerm). t.factors ≢ []) ts → AreFilled ts
 are_filled [] h = tt
-are_filled (t ∷ ts) h = (h 0 [] (omega arith), are_filled ts (λ k d lt. h (suc k) d (omega arith)))
+are_filled (t ∷ ts) h = (h 0 t (omega arith), are_filled ts (λ k d lt. h (suc k) d (omega arith)))
 
-all_filled : (ts : List (List PlainFactor)) → AreFilled ts → (k : ℕ) (d : List PlainFactor) → k < length ts
-    → slice_index_or ts k d ≢ []
+all_filled : (ts : List PlainTerm) → AreFilled ts → (k : ℕ) (d : PlainTerm) → k < length ts
+    → (slice_index_or ts k d).factors ≢ []
 all_filled [] h k d lt = absurd (omega arith)
 all_filled (t ∷ ts) h zero d lt = h.0
 all_filled (t ∷ ts) h (suc k) d lt = all_filled ts h.1 k d (omega arith)
 
-filled_texts : (name : List ℕ) (texts : List (List ℕ)) (ts : List (List PlainFactor))
-    → Each (IsTermText name) texts ts → AreFilled ts
+filled_texts : (name : List ℕ) (texts : List (List ℕ)) (ts : List PlainTerm)
+    → Each (IsNextText name) texts ts → AreFilled ts
 filled_texts name [] [] h = tt
 filled_texts name [] (t ∷ ts) h = absurd h
 filled_texts name (text ∷ texts) [] h = absurd h
-filled_texts name (text ∷ texts) (t ∷ ts) h = (h.0.0, filled_texts name texts ts h.1)
+filled_texts name (text ∷ texts) (t ∷ ts) ((product, is, factors), rest) = (factors.0, filled_texts name texts ts rest)
 
 -- the terms of a written sum are some
-pub written_terms : (name text : List ℕ) (ts : List (List PlainFactor)) → IsSumText name text ts → AreTerms ts
-written_terms name text ts (some, texts, joins, each) =
-    record { some = some; filled = all_filled ts (filled_texts name texts ts each) }
+pub written_terms : (name text : List ℕ) (ts : List PlainTerm) → IsSumText name text ts → AreTerms ts
+written_terms name text [] h = absurd h
+written_terms name text (t ∷ ts) (first, others, joins, (product, is, factors), each) = record {
+  some = λ e. absurd (cc);
+  filled = all_filled (t ∷ ts) (factors.0, filled_texts name others ts each);
+}
 
--- the factors of a term's tree, and the summands of a sum's
+-- the factors of a product's tree, and the summands of a sum's
 abbrev pub factors_of : List PlainFactor → List Factor
 factors_of fs = map (λ f. record { divide = false; of = factor_tree f }) fs
 
-abbrev pub summands_of : List (List PlainFactor) → List Summand
-summands_of ts = map (λ t. record { minus = false; of = term_tree t }) ts
+abbrev pub summands_of : List PlainTerm → List Summand
+summands_of ts = map summand_of ts
 
 -- the keys of terms
 powers_of-none : (n : ℕ) → powers_of n [] ≡ no_powers n
@@ -109,15 +115,17 @@ term_undivided [] h = absurd (h refl)
 term_undivided (f ∷ []) h = factor_undivided f
 term_undivided (f ∷ g ∷ fs) h = both _ _ (factor_undivided f) (factors_undivided (g ∷ fs))
 
-sum_undivided : (ts : List (List PlainFactor)) → AreFilled ts → T (undivided_summands
+sum_undivided : (ts : List PlainTerm) → AreFilled ts → T (undivided_summands
     (hidden-the_row-Summand-0 (summands_of ts)))
 unfolding hidden-the_row-Summand-0 shape-the_row-Summand-0 hidden
 sum_undivided [] h = tt
-sum_undivided (t ∷ ts) h = both _ _ (term_undivided t h.0) (sum_undivided ts h.1)
+sum_undivided (t ∷ ts) h = both _ _ (term_undivided t.factors h.0) (sum_undivided ts h.1)
 
-pub plain_undivided : (ts : List (List PlainFactor)) → AreTerms ts → T (undivided (plain_tree ts))
+pub plain_undivided : (ts : List PlainTerm) → AreTerms ts → T (undivided (plain_tree ts))
 plain_undivided [] h = absurd (h.some refl)
-plain_undivided (t ∷ []) h = term_undivided t (are_filled (t ∷ []) h.filled).0
+plain_undivided (t ∷ []) h = one_term (λ e. T (undivided e)) t
+    (sum_undivided (t ∷ []) (are_filled (t ∷ []) h.filled))
+    (λ _. term_undivided t.factors (are_filled (t ∷ []) h.filled).0)
 plain_undivided (t ∷ u ∷ ts) h = sum_undivided (t ∷ u ∷ ts) (are_filled (t ∷ u ∷ ts) h.filled)
 
 times_one : (e : ℕ) → e * 1 ≡ e
@@ -127,12 +135,16 @@ times_zero : (e : ℕ) → e * 0 ≡ 0
 times_zero e = omega arith
 
 module _ (S : SeriesRing) where
-  -- the monomial of a factor, and of a term
+  -- the monomial of a factor, of a product, and of a term
   abbrev pub factor_part : PlainFactor → Poly S
   factor_part f = monomial (ring S) (number_in f) (term_key S.variables (power_of_variable f) (power_of_main f))
 
   abbrev pub term_part : List PlainFactor → Poly S
   term_part t = monomial (ring S) (coefficient_of t) (term_key S.variables (variable_power t) (main_power t))
+
+  abbrev pub signed_part : PlainTerm → Poly S
+  signed_part t = monomial (ring S) (signed_coefficient S.modulus t)
+      (term_key S.variables (variable_power t.factors) (main_power t.factors))
 
   -- the power of a key
   power_part : (p j e : ℕ) → power (ring S) (monomial (ring S) 1 (term_key S.variables p j)) e
@@ -234,7 +246,17 @@ module _ (S : SeriesRing) where
           (sum_by-cons power_of_variable f (g ∷ fs)) (sum_by-cons power_of_main f (g ∷ fs)),
     )
 
-    sum_value : (ts : List (List PlainFactor)) → AreFilled ts → IsSumValue S D
+    -- a product with its sign
+    signed : (c : ℕ) (k : Key S.variables) (minus : Bool) → cut_off (monomial (ring S) (sign_of S.modulus minus * c) k)
+        ≡ (if minus then negative (ring S) (cut_off (monomial (ring S) c k)) else cut_off (monomial (ring S) c k))
+    unfolding truncated negative
+    signed c k true = ap cut_off (sym (monomials-negative (ring S) c k)) ∙ kept_terms-scaled (ring S) _ _ _
+    signed c k false = ap (λ n. cut_off (monomial (ring S) n k)) (once c)
+      where
+        once : (n : ℕ) → 1 * n ≡ n
+        once n = omega arith
+
+    sum_value : (ts : List PlainTerm) → AreFilled ts → IsSumValue S D
         (hidden-the_row-Summand-0 (summands_of ts))
         (cut_off (plain_polynomial S ts))
     unfolding hidden-the_row-Summand-0 shape-the_row-Summand-0 hidden truncated
@@ -242,22 +264,34 @@ module _ (S : SeriesRing) where
     sum_value (t ∷ ts) h = (
       _,
       _,
-      term_value t h.0,
+      term_value t.factors h.0,
       sum_value ts h.1,
-      ap cut_off (polynomial-cons (ring S) _ (coefficient_of t) (map (term_entry S.variables) ts))
-          ∙ truncated-sum (ring S) (degree S) D _ _,
+      ap cut_off (polynomial-cons (ring S) _ (signed_coefficient S.modulus t) (map (term_entry S) ts))
+          ∙ truncated-sum (ring S) (degree S) D _ _
+          ∙ ap (λ p. sum (ring S) p (cut_off (plain_polynomial S ts))) (signed (coefficient_of t.factors) _ t.minus),
     )
 
+    -- the product of a term without a minus
+    unsigned : (t : PlainTerm) → t.minus ≡ false
+        → cut_off (term_part t.factors) ≡ cut_off (plain_polynomial S (t ∷ []))
+    unsigned t is =
+        let k = term_key S.variables (variable_power t.factors) (main_power t.factors) in
+        sym (signed (coefficient_of t.factors) k false)
+        ∙ ap (λ b. cut_off (monomial (ring S) (sign_of S.modulus b * coefficient_of t.factors) k)) (sym is)
+        ∙ ap cut_off (monomial_listed (ring S) _ _)
+
     -- the polynomial of the terms is the tree's value
-    pub plain_is_value : (ts : List (List PlainFactor)) → AreTerms ts
+    pub plain_is_value : (ts : List PlainTerm) → AreTerms ts
         → IsValue S D (plain_tree ts) (cut_off (plain_polynomial S ts))
     plain_is_value [] h = absurd (h.some refl)
-    plain_is_value (t ∷ []) h = subst (IsValue S D (term_tree t)) (ap cut_off (monomial_listed (ring S) _ _))
-        (term_value t (are_filled (t ∷ []) h.filled).0)
+    plain_is_value (t ∷ []) h = one_term (λ e. IsValue S D e (cut_off (plain_polynomial S (t ∷ [])))) t
+        (sum_value (t ∷ []) (are_filled (t ∷ []) h.filled))
+        (λ is. subst (IsValue S D (term_tree t.factors)) (unsigned t is)
+        (term_value t.factors (are_filled (t ∷ []) h.filled).0))
     plain_is_value (t ∷ u ∷ ts) h = sum_value (t ∷ u ∷ ts) (are_filled (t ∷ u ∷ ts) h.filled)
 
     -- and no other is
-    pub plain_only_value : (ts : List (List PlainFactor)) → AreTerms ts → (v : Poly S) → IsValue S D (plain_tree ts) v
+    pub plain_only_value : (ts : List PlainTerm) → AreTerms ts → (v : Poly S) → IsValue S D (plain_tree ts) v
         → v ≡ cut_off (plain_polynomial S ts)
     plain_only_value ts h v is = only_value S D (plain_tree ts) (plain_undivided ts h) v is
         ∙ sym (only_value S D (plain_tree ts) (plain_undivided ts h) _ (plain_is_value ts h))

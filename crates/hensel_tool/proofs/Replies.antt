@@ -1,23 +1,66 @@
 -- What an input's answer is, from what was read and found.
-use Rattle.std.proofs.Common.{◌≡◌, ℕ, Bool, true, false, List, sym, ◌∙◌, subst}
+use Rattle.std.proofs.Common.{◌≡◌, ℕ, ◌+◌, ◌≤◌, Bool, true, false, List, sym, ◌∙◌, subst, arith}
+use Rattle.std.proofs.Common.{Result, Ok, Err}
+use Rattle.std.specs.Result.{OnErr}
+use Rattle.ps_model.specs.Job.{IsValidJob}
 use Rattle.std.specs.Prelude.{IsTrue, ◌↔◌}
-use Rattle.hensel_tool.specs.declared.script.PlainFactor.{PlainFactor}
-use Rattle.hensel_tool.specs.Plain.{Plain, IsWritten, IsSmall, IsPlain}
-use Rattle.hensel_tool.specs.Output.{factor_words, not_built, IsOutput}
+use Rattle.hensel_tool.specs.declared.script.PlainTerm.{PlainTerm}
+use Rattle.hensel_tool.specs.Plain.{Plain, IsWritten, IsSmall, IsPlain, plain_job}
+use Rattle.hensel_tool.specs.Output.{factor_words, not_built, steps_of, IsOutput}
+use Rattle.hensel_tool.specs.Replies.{IsReply, StopsWithin}
+use Rattle.hensel_tool.proofs.Decided.{some_text}
 use Rattle.hensel_tool.proofs.PlainReadings.{only_one}
-use Rattle.hensel_tool.proofs.Outputs.{refusal_output}
+use Rattle.hensel_tool.proofs.Outputs.{refusal_output, answer_output, some_output}
 
 -- the line for an input that isn't of the form
 pub not_built_output : (input text : List ℕ) (status : ℕ) → ((s : Plain) → IsPlain input s → ⊥) → text ≡ not_built
-    → status ≡ 1 → IsOutput factor_words input text status
-not_built_output input text status other is one = subst (λ t. IsOutput factor_words input t status) (sym is)
-    (subst (λ n. IsOutput factor_words input not_built n) (sym one) (refusal_output input other))
+    → status ≡ 1 → IsOutput factor_words input text status 0
+not_built_output input text status other is one = subst (λ t. IsOutput factor_words input t status 0) (sym is)
+    (subst (λ n. IsOutput factor_words input not_built n 0) (sym one) (refusal_output input other))
 
 not_both : false ≡ true → ⊥
 not_both e = absurd (cc)
 
 -- a script whose polynomial isn't small isn't of the form
-pub not_small : (input : List ℕ) (s : Plain) (terms : List (List PlainFactor)) (b : Bool) → IsWritten input s
+pub not_small : (input : List ℕ) (s : Plain) (terms : List PlainTerm) (b : Bool) → IsWritten input s
     → terms ≡ s.terms → b ≡ false → (IsTrue b ↔ IsSmall terms) → (t : Plain) → IsPlain input t → ⊥
 not_small input s terms b is same other tells t plain = not_both (sym other ∙ tells.1 (subst IsSmall (sym same)
     (subst (λ (r : Plain). IsSmall r.terms) (only_one input t s plain.written is) plain.small)))
+
+-- where memory runs out before any step
+pub stops_at_once : (input : List ℕ) (tally : ℕ) → StopsWithin input tally tally
+stops_at_once input tally = let some = some_output input in record {
+  text = some.0;
+  status = some.1;
+  steps = some.2;
+  output = some.3;
+  more = omega arith;
+  at_most = omega arith;
+}
+
+-- where it runs out while a valid job's request is answered
+pub stops_within : (input : List ℕ) (s : Plain) (tally tally' : ℕ) → IsPlain input s → IsValidJob (plain_job s)
+    → tally ≤ tally' → tally' ≤ tally + steps_of s → StopsWithin input tally tally'
+stops_within input s tally tally' plain valid more at_most =
+    let answer = some_text input s plain valid in
+    record {
+      text = answer.0;
+      status = 0;
+      steps = steps_of s;
+      output = answer_output input s answer.0 plain valid answer.1;
+      more = more;
+      at_most = at_most;
+    }
+
+-- a line that refuses takes no step
+pub no_steps : (tally : ℕ) → tally ≡ tally + 0
+no_steps tally = omega arith
+
+pub refused_reply : (input text : List ℕ) (status tally : ℕ) → IsOutput factor_words input text status 0
+    → IsReply input text status tally tally
+refused_reply input text status tally output = record { steps = 0; output = output; spends = no_steps tally }
+
+-- what holds anyhow holds of an error
+pub on_err : {T E : Type 0} (r : Result T E) (P : Type 0) → P → OnErr r P
+on_err (Ok x) P p = tt
+on_err (Err e) P p = p

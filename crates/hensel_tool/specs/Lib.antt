@@ -9,7 +9,11 @@ pub mod Output
 pub mod Calls
 pub mod Measures
 pub mod Origin
+pub mod Apart
 pub mod Form
+pub mod Coefficients
 pub mod PlainReading
 pub mod ReadingView
-pub mod Rows
+pub mod FactorParts
+pub mod FactorTexts
+pub mod Replies

@@ -3,15 +3,17 @@
 --     usage_line, not_built      the line for refused words, and that for a script that isn't of a
 --         form that is built
 --     IsRequestText s text      the block of the script's request; nothing where it makes none
---     IsUsage words text status      the words are refused: the usage line and 2
---     IsAnswer words input text status      the script is of the plain form and its job is valid:
---         its request's block and 0
---     IsFaulty words input text status      its job has a fault: the line that tells the first one,
---         and 1
---     IsRefusal words input text status      it isn't of the form: that line and 1
---     IsOutput words input text status      one of the four; the input counts only where the words
---         are taken
-use Rattle.std.specs.Prelude.{◌≡◌, ◌≢◌, ℕ, ◌⊎◌, List, [], ◌∷◌, codes, Option, Some, None}
+--     steps_of s      the steps of the request: each root has one for each degree up to the precision;
+--         none without a request
+--     IsUsage words text status steps      the words are refused: the usage line, 2 and no step
+--     IsAnswer words input text status steps      the script is of the plain form and its job is valid:
+--         its request's block, 0 and the request's steps
+--     IsFaulty words input text status steps      its job has a fault: the line that tells the first
+--         one, 1 and no step
+--     IsRefusal words input text status steps      it isn't of the form: that line, 1 and no step
+--     IsOutput words input text status steps      one of the four; the input counts only where the
+--         words are taken
+use Rattle.std.specs.Prelude.{◌≡◌, ◌≢◌, ℕ, ◌+◌, ◌*◌, ◌⊎◌, length, List, [], ◌∷◌, codes, Option, Some, None}
 use Rattle.ps_model.specs.Job.{Fault, IsFirstFault, IsValidJob}
 use Rattle.hensel_tool.specs.Plain.{Plain, IsPlain, plain_job}
 use Rattle.hensel_tool.specs.Block.{IsBlock}
@@ -30,21 +32,30 @@ abbrev pub IsRequestText : Plain → Option ℕ → List ℕ → Type 0
 IsRequestText s None text = text ≡ []
 IsRequestText s (Some D) text = IsBlock s D text
 
-pub record IsUsage (words : List (List ℕ)) (text : List ℕ) (status : ℕ) : Type 0 where
+abbrev pub steps_for : ℕ → Option ℕ → ℕ
+steps_for roots None = 0
+steps_for roots (Some D) = roots * (1 + D)
+
+abbrev pub steps_of : Plain → ℕ
+steps_of s = steps_for (length s.roots) s.request
+
+pub record IsUsage (words : List (List ℕ)) (text : List ℕ) (status steps : ℕ) : Type 0 where
   pub refused : words ≢ factor_words
   pub text_is : text ≡ usage_line
   pub status_is : status ≡ 2
+  pub steps_are : steps ≡ 0
 
-pub record IsAnswer (words : List (List ℕ)) (input text : List ℕ) (status : ℕ) : Type 0 where
+pub record IsAnswer (words : List (List ℕ)) (input text : List ℕ) (status steps : ℕ) : Type 0 where
   pub taken : words ≡ factor_words
   pub script : Plain
   pub plain : IsPlain input script
   pub valid : IsValidJob (plain_job script)
   pub text_is : IsRequestText script script.request text
   pub status_is : status ≡ 0
+  pub steps_are : steps ≡ steps_of script
 
 -- the roots, and so the job, are on line 4
-pub record IsFaulty (words : List (List ℕ)) (input text : List ℕ) (status : ℕ) : Type 0 where
+pub record IsFaulty (words : List (List ℕ)) (input text : List ℕ) (status steps : ℕ) : Type 0 where
   pub taken : words ≡ factor_words
   pub script : Plain
   pub plain : IsPlain input script
@@ -52,13 +63,16 @@ pub record IsFaulty (words : List (List ℕ)) (input text : List ℕ) (status : 
   pub first : IsFirstFault (plain_job script) fault
   pub text_is : text ≡ refusal 4 fault
   pub status_is : status ≡ 1
+  pub steps_are : steps ≡ 0
 
-pub record IsRefusal (words : List (List ℕ)) (input text : List ℕ) (status : ℕ) : Type 0 where
+pub record IsRefusal (words : List (List ℕ)) (input text : List ℕ) (status steps : ℕ) : Type 0 where
   pub taken : words ≡ factor_words
   pub other : (script : Plain) → IsPlain input script → ⊥
   pub text_is : text ≡ not_built
   pub status_is : status ≡ 1
+  pub steps_are : steps ≡ 0
 
-abbrev pub IsOutput : List (List ℕ) → List ℕ → List ℕ → ℕ → Type 0
-IsOutput words input text status = IsUsage words text status
-    ⊎ (IsAnswer words input text status ⊎ (IsFaulty words input text status ⊎ IsRefusal words input text status))
+abbrev pub IsOutput : List (List ℕ) → List ℕ → List ℕ → ℕ → ℕ → Type 0
+IsOutput words input text status steps = IsUsage words text status steps
+    ⊎ (IsAnswer words input text status steps
+    ⊎ (IsFaulty words input text status steps ⊎ IsRefusal words input text status steps))

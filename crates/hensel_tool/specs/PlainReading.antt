@@ -4,13 +4,22 @@
 --         is none
 --     strip text bytes      what stands behind the text, with which the bytes begin; None where
 --         they don't
+--     signed text      whether a minus stands first, and what stands behind it
 --     is_byte b text      the text is the one byte b
 --     number_at_most limit text      the number that the whole text stands for, up to a limit
+--     pieces b text      what stands between the bytes b
+--     each_in f texts      what each of the texts is, by f; None where one of them is nothing
 --     factor_in name text      the factor that the whole text is
 --     term_in name text      its factors, between the bytes *
---     sum_in name text      its terms, between the blanks round each +
+--     sign_in text      whether the text is a minus; None where it is neither minus nor plus
+--     terms_in name minus texts      the terms that the texts are, with the signs between them, where
+--         a minus stands before the first or not
+--     sum_in name text      its terms: the first with a minus before it or without, and blanks round
+--         each later sign
+--     root_in text      the root that the whole text is
+--     roots_in text      its roots, between the blanks
 --     lines_in input      four lines, each ended by a newline, and what stands behind them
---     frame_of lines      what the lines say, but for the polynomial
+--     frame_of lines      what the lines say, with the polynomial and the roots as they are written
 --     script_in input      what a script of the plain form says; None where the input isn't one
 use Rattle.std.specs.Prelude.{◌≡◌, ℕ, ◌==◌, ◌&&◌, ◌-◌, ◌^◌, nat_le, not, Bool, true, false, if◌then◌else◌}
 use Rattle.std.specs.Prelude.{List, [], ◌∷◌, length, slice_index, Option, Some, None, codes}
@@ -20,6 +29,8 @@ use Rattle.std.specs.Str.{bytes_eq}
 use Rattle.std.specs.Char.{is_ascii_digit}
 use Rattle.hensel_tool.specs.declared.script.PlainFactor.{PlainFactor}
 use Rattle.hensel_tool.specs.declared.script.PlainFactor.TheVariants as factor
+use Rattle.hensel_tool.specs.declared.script.PlainTerm.{PlainTerm}
+use Rattle.hensel_tool.specs.declared.script.PlainRoot.{PlainRoot}
 use Rattle.hensel_tool.specs.Numbers.{number_of, is_name}
 use Rattle.hensel_tool.specs.Plain.{Plain}
 
@@ -40,6 +51,13 @@ abbrev pub strip : List ℕ → List ℕ → Option (List ℕ)
 strip [] bytes = Some bytes
 strip (t ∷ ts) [] = None
 strip (t ∷ ts) (b ∷ bs) = if b == t then strip ts bs else None
+
+abbrev pub signed_by : List ℕ → Option (List ℕ) → Bool × List ℕ
+signed_by text None = (false, text)
+signed_by text (Some behind) = (true, behind)
+
+unfoldable pub signed : List ℕ → Bool × List ℕ
+signed text = signed_by text (strip (codes "-") text)
 
 abbrev pub is_nothing : List ℕ → Bool
 is_nothing [] = true
@@ -74,26 +92,53 @@ single_or_power name text (Some p) = power_in name p.0 p.1
 unfoldable pub factor_in : List ℕ → List ℕ → Option PlainFactor
 factor_in name text = single_or_power name text (cut_at 94 text)
 
--- the factors that the texts are
-abbrev pub factors_in : List ℕ → List (List ℕ) → Option (List PlainFactor)
-factors_in name [] = Some []
-factors_in name (text ∷ texts) = do
-  f ← factor_in name text
-  option_map (λ fs. f ∷ fs) (factors_in name texts)
+abbrev pub pieces : ℕ → List ℕ → List (List ℕ)
+pieces b text = slice_split (λ x. x == b) text
+
+abbrev pub each_in : {A : Type 0} → (List ℕ → Option A) → List (List ℕ) → Option (List A)
+each_in f [] = Some []
+each_in f (text ∷ texts) = do
+  x ← f text
+  option_map (λ xs. x ∷ xs) (each_in f texts)
 
 unfoldable pub term_in : List ℕ → List ℕ → Option (List PlainFactor)
-term_in name text = factors_in name (slice_split (λ x. x == 42) text)
+term_in name text = each_in (factor_in name) (pieces 42 text)
 
--- the terms that the texts are, each but the last with a + behind it
-abbrev pub terms_in : List ℕ → List (List ℕ) → Option (List (List PlainFactor))
-terms_in name [] = None
-terms_in name (text ∷ []) = option_map (λ fs. fs ∷ []) (term_in name text)
-terms_in name (text ∷ plus ∷ texts) = do
+unfoldable pub sign_in : List ℕ → Option Bool
+sign_in text = if is_byte 45 text then Some true else (if is_byte 43 text then Some false else None)
+
+-- the sign before a later term, and what stands behind its blank
+unfoldable pub next_sign_in : List ℕ → Option (Bool × List ℕ)
+next_sign_in text = do
+  parts ← cut_at 32 text
+  minus ← sign_in parts.0
+  Some (minus, parts.1)
+
+abbrev pub terms_in : List ℕ → Bool → List (List ℕ) → Option (List PlainTerm)
+terms_in name minus [] = None
+terms_in name minus (text ∷ []) =
+    option_map (λ fs. record { minus = minus; factors = fs } ∷ []) (term_in name text)
+terms_in name minus (text ∷ sign ∷ texts) = do
   fs ← term_in name text
-  if is_byte 43 plus then option_map (λ ts. fs ∷ ts) (terms_in name texts) else None
+  next ← sign_in sign
+  option_map (λ ts. record { minus = minus; factors = fs } ∷ ts) (terms_in name next texts)
 
-unfoldable pub sum_in : List ℕ → List ℕ → Option (List (List PlainFactor))
-sum_in name text = terms_in name (slice_split (λ x. x == 32) text)
+unfoldable pub sum_in : List ℕ → List ℕ → Option (List PlainTerm)
+sum_in name text = terms_in name (signed text).0 (pieces 32 (signed text).1)
+
+-- a root behind its sign
+unfoldable pub unsigned_root_in : Bool → List ℕ → Option PlainRoot
+unsigned_root_in minus text = do
+  parts ← cut_at 58 text
+  number ← number_at_most (2 ^ 64 - 1) parts.0
+  times ← number_at_most 32 parts.1
+  if nat_le 1 times then Some (record { minus = minus; number = number; times = times }) else None
+
+unfoldable pub root_in : List ℕ → Option PlainRoot
+root_in text = unsigned_root_in (signed text).0 (signed text).1
+
+unfoldable pub roots_in : List ℕ → Option (List PlainRoot)
+roots_in text = each_in root_in (pieces 32 text)
 
 pub record FourLines : Type 0 where
   pub first : List ℕ
@@ -127,15 +172,6 @@ name_in line = do
   name ← strip (codes "vars ") line
   if is_name name then Some name else None
 
--- the root and its multiplicity
-unfoldable pub root_in : List ℕ → Option (ℕ × ℕ)
-root_in line = do
-  rest ← strip (codes "roots ") line
-  parts ← cut_at 58 rest
-  root ← number_at_most (2 ^ 64 - 1) parts.0
-  times ← number_at_most 32 parts.1
-  if nat_le 1 times then Some (root, times) else None
-
 -- the precision that the line behind the four asks for; nothing where there is no line
 unfoldable pub request_in : List ℕ → Option (Option ℕ)
 request_in behind = if is_nothing behind then Some None else (do
@@ -144,13 +180,12 @@ request_in behind = if is_nothing behind then Some None else (do
   d ← number_at_most 4095 digits
   if is_nothing parts.1 then Some (Some d) else None)
 
--- what a script says, with its polynomial as it is written
+-- what a script says, with its polynomial and its roots as they are written
 pub record Frame : Type 0 where
   pub modulus : ℕ
   pub name : List ℕ
   pub polynomial : List ℕ
-  pub root : ℕ
-  pub times : ℕ
+  pub roots : List ℕ
   pub request : Option ℕ
 
 unfoldable pub frame_of : FourLines → Option Frame
@@ -158,24 +193,22 @@ frame_of lines = do
   modulus ← modulus_in lines.first
   name ← name_in lines.second
   polynomial ← strip (codes "poly ") lines.third
-  root ← root_in lines.fourth
+  roots ← strip (codes "roots ") lines.fourth
   request ← request_in lines.behind
   Some (record {
     modulus = modulus;
     name = name;
     polynomial = polynomial;
-    root = root.0;
-    times = root.1;
+    roots = roots;
     request = request;
   })
 
-abbrev pub with_terms : Frame → List (List PlainFactor) → Plain
-with_terms frame terms = record {
+abbrev pub script_with : Frame → List PlainTerm → List PlainRoot → Plain
+script_with frame terms roots = record {
   modulus = frame.modulus;
   name = frame.name;
   terms = terms;
-  root = frame.root;
-  times = frame.times;
+  roots = roots;
   request = frame.request;
 }
 
@@ -183,7 +216,9 @@ unfoldable pub frame_in : List ℕ → Option Frame
 frame_in input = if nat_le (length input) 65536 then lines_in input >>= frame_of else None
 
 abbrev pub plain_in : Frame → Option Plain
-plain_in frame = option_map (with_terms frame) (sum_in frame.name frame.polynomial)
+plain_in frame = do
+  terms ← sum_in frame.name frame.polynomial
+  option_map (script_with frame terms) (roots_in frame.roots)
 
 unfoldable pub script_in : List ℕ → Option Plain
 script_in input = frame_in input >>= plain_in

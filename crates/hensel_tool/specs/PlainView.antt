@@ -8,7 +8,6 @@ plain_view s = record {
   modulus = s.modulus;
   name = s.name.now;
   terms = s.terms;
-  root = s.root;
-  times = s.times;
+  roots = s.roots;
   request = s.request;
 }

@@ -19,7 +19,6 @@ frame_view frame = record {
   modulus = frame.modulus;
   name = frame.name.now;
   polynomial = frame.polynomial.now;
-  root = frame.root;
-  times = frame.times;
+  roots = frame.roots.now;
   request = frame.request;
 }

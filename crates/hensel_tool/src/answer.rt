@@ -1,20 +1,22 @@
 //! What `factor` answers to an input.
-ghost use Rattle.std.specs.Prelude.{◌≡◌, ℕ, ◌<◌, List, IfOk};
+ghost use Rattle.std.specs.Prelude.{◌≡◌, ℕ, ◌+◌, ◌<◌, ◌≤◌, ◌^◌, List, IfOk, OnOk, OnErr};
 ghost use Rattle.ps_model.specs.Job.{IsValidJob};
 ghost use Rattle.residue.specs.Residues.{number_of};
 ghost use Rattle.hensel_tool.specs.Plain.{IsPlain, plain_job};
 ghost use Rattle.hensel_tool.specs.Form.{IsOfForm};
-ghost use Rattle.hensel_tool.specs.Output.{factor_words, not_built as not_built_line};
-ghost use Rattle.hensel_tool.specs.Output.{IsOutput, IsRequestText};
+ghost use Rattle.hensel_tool.specs.Output.{not_built as not_built_line, steps_of};
+ghost use Rattle.hensel_tool.specs.Output.{IsRequestText};
+ghost use Rattle.hensel_tool.specs.Replies.{IsReply, StopsWithin};
 ghost use Rattle.hensel_tool.specs.PlainView.{plain_view};
 
-use crate::block::block;
+use crate::factoring::factored;
 use crate::fault::first_fault;
 use crate::fault_line::fault_line;
 use crate::measures::is_small;
 use crate::plain::read;
 use crate::script::PlainScript;
 use crate::status::{DONE, NOT_BUILT, REFUSED};
+use prepare::Tally;
 use ps_model::OutOfMemory;
 use residue::Modulus;
 use std::alloc::{AllocError, Global};
@@ -27,10 +29,12 @@ pub struct Reply {
 }
 
 /// The answer to an input: a block, nothing where the script asks for none, or the line that
-/// refuses it.
-pub fn answer_to(alloc: Global, input: &[u8]) -> Result<Reply, OutOfMemory>
-    ensures output { IfOk result
-        (λ reply. IsOutput factor_words input.now reply.text.items reply.status) }
+/// refuses it. A block takes steps, which are counted.
+pub fn answer_to(alloc: Global, input: &[u8], tally: &mut Tally) -> Result<Reply, OutOfMemory>
+    requires room { tally.old ≤ 2 ^ 60 }
+    ensures output { IfOk result (λ reply.
+        IsReply input.now reply.text.items reply.status tally.old tally.new) }
+    ensures stops { OnErr result (StopsWithin input.now tally.old tally.new) }
     ensures low { IfOk result (λ reply. reply.status < 2) }
 {
     match read(alloc, input)? {
@@ -39,17 +43,23 @@ pub fn answer_to(alloc: Global, input: &[u8]) -> Result<Reply, OutOfMemory>
             if !is_small(script.terms.as_slice()) {
                 return Ok(not_built(alloc)?);
             }
-            answer_script(alloc, &script)
+            answer_script(alloc, &script, tally)
         }
     }
 }
 
 /// The answer to a script of the plain form.
-fn answer_script(alloc: Global, script: &PlainScript<'_>) -> Result<Reply, OutOfMemory>
-    requires { IsOfForm (plain_view script.now) }
-    ensures output { IfOk result
-        (λ reply. (input : List ℕ) → IsPlain input (plain_view script.now) →
-        IsOutput factor_words input reply.text.items reply.status) }
+fn answer_script(
+    alloc: Global,
+    script: &PlainScript<'_>,
+    tally: &mut Tally,
+) -> Result<Reply, OutOfMemory>
+    requires form { IsOfForm (plain_view script.now) }
+    requires room { tally.old ≤ 2 ^ 60 }
+    ensures output { IfOk result (λ reply. (input : List ℕ) → IsPlain input (plain_view script.now)
+        → IsReply input reply.text.items reply.status tally.old tally.new) }
+    ensures stops { OnErr result ((input : List ℕ) → IsPlain input (plain_view script.now) →
+        StopsWithin input tally.old tally.new) }
     ensures low { IfOk result (λ reply. reply.status < 2) }
 {
     let modulus = Modulus::new(script.modulus).unwrap();
@@ -58,10 +68,10 @@ fn answer_script(alloc: Global, script: &PlainScript<'_>) -> Result<Reply, OutOf
             text: fault_line(alloc, &fault)?,
             status: REFUSED,
         }),
-        None => Ok(Reply {
-            text: requested(alloc, modulus, script)?,
-            status: DONE,
-        }),
+        None => {
+            let text = requested(alloc, modulus, script, tally)?;
+            Ok(Reply { text, status: DONE })
+        }
     }
 }
 
@@ -70,16 +80,21 @@ fn requested(
     alloc: Global,
     modulus: Modulus,
     script: &PlainScript<'_>,
+    tally: &mut Tally,
 ) -> Result<Vec<u8>, OutOfMemory>
     requires modulus { number_of modulus ≡ script.now.modulus }
     requires form { IsOfForm (plain_view script.now) }
     requires valid { IsValidJob (plain_job (plain_view script.now)) }
-    ensures { IfOk result
+    requires room { tally.old ≤ 2 ^ 60 }
+    ensures text { IfOk result
         (λ text. IsRequestText (plain_view script.now) script.now.request text.items) }
+    ensures steps { OnOk result (tally.new ≡ tally.old + steps_of (plain_view script.now)) }
+    ensures more { OnErr result (tally.old ≤ tally.new) }
+    ensures at_most { OnErr result (tally.new ≤ tally.old + steps_of (plain_view script.now)) }
 {
     match script.request {
         None => Ok(Vec::new(alloc)),
-        Some(precision) => block(alloc, modulus, script, precision),
+        Some(precision) => factored(alloc, modulus, script, precision, tally),
     }
 }
 

@@ -9,6 +9,7 @@ ghost use Rattle.hensel_tool.specs.PlainView.{plain_view};
 
 use crate::measures::{formal_degree, is_monic};
 use crate::origin::first_difference;
+use crate::roots::{near_pair, roots_of, total_times};
 use crate::script::PlainScript;
 use ps_model::OutOfMemory;
 use residue::Modulus;
@@ -19,10 +20,26 @@ use std::alloc::Global;
 pub enum PlainFault {
     /// The leading number isn't 1, or isn't known.
     NotMonic,
-    /// The formal degree, and the multiplicity of the root.
-    DegreeMismatch { degree: u32, total: u32 },
-    /// A power of Y, its coefficient in the polynomial at the origin, and that in the root's power.
-    RootsMismatch { power: u32, input: u64, roots: u64 },
+    /// The formal degree, and the sum of the multiplicities, at most 2^32 - 1.
+    DegreeMismatch {
+        degree: u32,
+        total: u32,
+    },
+    /// Two roots, counted from 1, their difference modulo the modulus, and the greatest common
+    /// divisor of both, above 1.
+    NotApart {
+        first: usize,
+        second: usize,
+        difference: u64,
+        gcd: u64,
+    },
+    /// A power of Y, its coefficient in the polynomial at the origin, and that in the product of
+    /// the root powers.
+    RootsMismatch {
+        power: u32,
+        input: u64,
+        roots: u64,
+    },
 }
 
 /// What is wrong with the script's job, by the order of the faults.
@@ -38,19 +55,25 @@ pub fn first_fault(
     ensures valid { IfOk result (λ found. IfNone found
         (IsValidJob (plain_job (plain_view script.now)))) }
 {
-    let terms = &script.terms;
-    if !is_monic(modulus, terms.as_slice()) {
+    let terms = script.terms.as_slice();
+    if !is_monic(modulus, terms) {
         return Ok(Some(PlainFault::NotMonic));
     }
-    let degree = formal_degree(terms.as_slice());
-    if degree != script.times {
-        return Ok(Some(PlainFault::DegreeMismatch {
-            degree,
-            total: script.times,
+    let degree = formal_degree(terms);
+    let roots = roots_of(alloc, modulus, script.roots.as_slice())?;
+    let total = total_times(&roots);
+    if degree != total {
+        return Ok(Some(PlainFault::DegreeMismatch { degree, total }));
+    }
+    if let Some(pair) = near_pair(modulus, &roots) {
+        return Ok(Some(PlainFault::NotApart {
+            first: pair.first,
+            second: pair.second,
+            difference: pair.difference,
+            gcd: pair.gcd,
         }));
     }
-    let root = modulus.reduce(script.root);
-    match first_difference(alloc, modulus, terms, root, script.times)? {
+    match first_difference(alloc, modulus, terms, &roots)? {
         None => Ok(None),
         Some(difference) => Ok(Some(PlainFault::RootsMismatch {
             power: difference.power,

@@ -28,6 +28,17 @@ fn push_fault(line: &mut Vec<u8>, fault: &PlainFault) -> Result<(), AllocError>
             push_told(line, b"degree ", *degree as u64)?;
             push_told(line, b", roots give ", *total as u64)?;
         }
+        PlainFault::NotApart {
+            first,
+            second,
+            difference,
+            gcd,
+        } => {
+            push_told(line, b"roots ", *first as u64)?;
+            push_told(line, b" and ", *second as u64)?;
+            push_told(line, b": difference ", *difference)?;
+            push_told(line, b" has no inverse, gcd ", *gcd)?;
+        }
         PlainFault::RootsMismatch {
             power,
             input,
@@ -49,3 +60,6 @@ fn push_told(line: &mut Vec<u8>, words: &[u8], number: u64) -> Result<(), AllocE
     let mut buffer = Buffer::new();
     line.extend_from_slice(buffer.format(number).as_bytes())
 }
+
+#[cfg(test)]
+mod tests;

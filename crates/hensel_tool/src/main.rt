@@ -11,20 +11,28 @@ mod reading;
 // scripts of the plain form, and how they are read
 mod plain;
 mod polynomial;
+mod root_texts;
 mod script;
 mod terms;
 
-// what a script's polynomial is: its measures, and its coefficients at the origin
+// what a script's polynomial is: its measures, its roots, and its coefficients at the origin
 mod measures;
 mod origin;
+mod roots;
 
 // what may be wrong with a script's job, and the line that tells it
 mod fault;
 mod fault_line;
 
-// the block of a script's factor, from rows of homogeneous parts
+// the job's factors, by a line of stages over the rows of its polynomial
+mod factoring;
+mod job;
+mod known_line;
+mod source;
+
+// their block, from homogeneous parts
 mod block;
-mod rows;
+mod factor_parts;
 
 // the program's work, from bytes to bytes
 mod answer;
@@ -36,6 +44,7 @@ mod status;
 mod tests;
 
 use ports::{StdSink, StdSource};
+use prepare::Tally;
 pub use program::run;
 use std::env::{self, Env};
 use std::process::ExitCode;
@@ -44,7 +53,16 @@ fn main(rt: HostRuntime) -> ExitCode {
     let words = given_words(&rt);
     let mut source = StdSource::new(rt.stdin());
     let mut sink = StdSink::new(rt.stdout());
-    let status = run(&rt, rt.alloc(), words.as_slice(), &mut source, &mut sink);
+    let mut tally = Tally::new();
+    let status = run(
+        &rt,
+        rt.alloc(),
+        words.as_slice(),
+        &mut source,
+        &mut sink,
+        &mut tally,
+    );
+    let _steps = tally.finish();
     ExitCode::from(status)
 }
 

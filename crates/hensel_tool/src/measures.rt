@@ -1,19 +1,17 @@
 //! Degree, nodes and leading number of a plain polynomial, and the limits that it keeps.
-ghost use Rattle.std.specs.Prelude.{◌≡◌, ◌≢◌, ◌%◌, ◌≤◌, ◌↔◌, ◌∷◌, [], IsTrue, SomeIff};
+ghost use Rattle.std.specs.Prelude.{◌≡◌, ◌≤◌, ◌↔◌, ◌∷◌, [], IsTrue, SomeIff};
 ghost use Rattle.ps_model.specs.Tree.{formal_degree};
 ghost use Rattle.ps_model.specs.Value.{HasLead};
 ghost use Rattle.ps_model.specs.Job.{series_ring};
 ghost use Rattle.residue.specs.Residues.{number_of};
-ghost use Rattle.hensel_tool.specs.Plain.{plain_tree, power_of_variable, variable_power, IsSmall};
-ghost use Rattle.hensel_tool.specs.PlainValue.{number_in, power_of_main, coefficient_of};
-ghost use Rattle.hensel_tool.specs.PlainValue.{main_power};
+ghost use Rattle.hensel_tool.specs.Plain.{plain_tree, IsSmall};
+ghost use Rattle.hensel_tool.specs.PlainValue.{power_of_main};
 ghost use Rattle.hensel_tool.specs.Measures.{greatest_main_power, factor_nodes, IsWithinLimits};
-ghost use Rattle.hensel_tool.specs.Measures.{size_of, size_with};
+ghost use Rattle.hensel_tool.specs.Measures.{is_product, size_of, size_with};
 
-use crate::script::PlainFactor;
-use crate::terms::{coefficient, power_of_main, power_of_variable};
+use crate::script::{PlainFactor, PlainTerm};
+use crate::terms::{coefficient, has_variable, main_power, power_of_main, power_of_variable};
 use residue::Modulus;
-use sqlite_items::Items;
 
 /// The greatest power of the variable in a term.
 const VARIABLE_LIMIT: u32 = 4095;
@@ -22,7 +20,7 @@ const DEGREE_LIMIT: u32 = 32;
 /// The most nodes.
 const NODE_LIMIT: u32 = 4096;
 
-/// What the limits bound in a term.
+/// What the limits bound in a product.
 #[derive(Clone, Copy)]
 struct TermSize {
     variable_power: u32,
@@ -32,13 +30,13 @@ struct TermSize {
 
 /// Whether the sum keeps the limits: at most 4095 as a term's power of the variable, degree 32 and
 /// 4096 nodes. It stops at the first factor that goes above one.
-pub fn is_small(terms: &[Items<PlainFactor>]) -> bool
+pub fn is_small(terms: &[PlainTerm]) -> bool
     ensures { IsTrue result ↔ IsSmall terms.now }
 {
     let mut degree = 0;
     let mut nodes = 0;
     for term in terms {
-        let Some(size) = term_size(term.as_slice()) else {
+        let Some(size) = term_size(term.factors.as_slice()) else {
             return false;
         };
         degree = degree.max(size.main_power);
@@ -47,11 +45,11 @@ pub fn is_small(terms: &[Items<PlainFactor>]) -> bool
             return false;
         }
     }
-    terms.len() == 1 || nodes + degree + 1 <= NODE_LIMIT
+    is_product(terms) || nodes + degree + 1 <= NODE_LIMIT
 }
 
 /// The formal degree in Y of a sum that keeps the limits.
-pub fn formal_degree(terms: &[Items<PlainFactor>]) -> u32
+pub fn formal_degree(terms: &[PlainTerm]) -> u32
     requires { IsSmall terms.now }
     ensures { result ≡ formal_degree (plain_tree terms.now) }
 {
@@ -59,30 +57,40 @@ pub fn formal_degree(terms: &[Items<PlainFactor>]) -> u32
 }
 
 /// Whether the leading number is known by the sum's form and is 1: no term of the formal degree
-/// has the variable, and the coefficients of these terms add to 1.
-pub fn is_monic(modulus: Modulus, terms: &[Items<PlainFactor>]) -> bool
+/// has the variable, and the coefficients of these terms, with their signs, add to 1.
+pub fn is_monic(modulus: Modulus, terms: &[PlainTerm]) -> bool
     ensures { IsTrue result ↔ HasLead (series_ring (number_of modulus)) (plain_tree terms.now) 1 }
 {
     let degree = greatest_main_power(terms);
     let mut lead = 0;
     for term in terms {
-        let factors = term.as_slice();
+        let factors = term.factors.as_slice();
         if main_power(factors) != degree {
             continue;
         }
         if has_variable(factors) {
             return false;
         }
-        lead = modulus.add(lead, coefficient(modulus, factors));
+        lead = modulus.add(lead, coefficient(modulus, term));
     }
     lead == 1
 }
 
-/// The measures of a term; `None` where they break a limit.
-fn term_size(term: &[PlainFactor]) -> Option<TermSize>
-    ensures { SomeIff result (IsWithinLimits (size_of term.now)) (size_of term.now) }
+/// Whether the terms are one alone without a minus, and so no sum.
+fn is_product(terms: &[PlainTerm]) -> bool
+    ensures { result ≡ is_product terms.now }
 {
-    let [first, rest @ ..] = term else {
+    match terms {
+        [term] => !term.minus,
+        _ => false,
+    }
+}
+
+/// The measures of a product; `None` where they break a limit.
+fn term_size(factors: &[PlainFactor]) -> Option<TermSize>
+    ensures { SomeIff result (IsWithinLimits (size_of factors.now)) (size_of factors.now) }
+{
+    let [first, rest @ ..] = factors else {
         return Some(TermSize {
             variable_power: 0,
             main_power: 0,
@@ -151,37 +159,14 @@ fn nodes_of(factor: PlainFactor) -> u32
 }
 
 /// The greatest power of Y in a term; 0 of none.
-fn greatest_main_power(terms: &[Items<PlainFactor>]) -> u128
+fn greatest_main_power(terms: &[PlainTerm]) -> u128
     ensures { result ≡ greatest_main_power terms.now }
 {
     let mut greatest = 0;
     for term in terms {
-        greatest = greatest.max(main_power(term.as_slice()));
+        greatest = greatest.max(main_power(term.factors.as_slice()));
     }
     greatest
-}
-
-/// The power of Y in a term: below 2^96, since memory has fewer than 2^64 factors.
-fn main_power(term: &[PlainFactor]) -> u128
-    ensures { result ≡ main_power term.now }
-{
-    let mut power = 0;
-    for factor in term {
-        power += u128::from(power_of_main(*factor));
-    }
-    power
-}
-
-/// Whether the variable stands in a term with a power above 0.
-fn has_variable(term: &[PlainFactor]) -> bool
-    ensures { IsTrue result ↔ (variable_power term.now ≢ 0) }
-{
-    for factor in term {
-        if power_of_variable(*factor) != 0 {
-            return true;
-        }
-    }
-    false
 }
 
 #[cfg(test)]

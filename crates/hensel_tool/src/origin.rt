@@ -1,23 +1,24 @@
-//! The values of a plain script at the origin, and where they differ from the root's power.
+//! The values of a plain script at the origin, and where they differ from the product of the root
+//! powers.
 ghost use Rattle.std.specs.Prelude.{◌≡◌, ℕ, ◌+◌, ◌*◌, ◌%◌, ◌<◌, ◌≤◌, ◌∷◌, length, IfOk, vec_len};
-ghost use Rattle.std.specs.Prelude.{slice_index, EachIndex, nat_lt};
+ghost use Rattle.std.specs.Prelude.{slice_index};
 ghost use Rattle.std.specs.List.{All};
+ghost use Rattle.ps_model.specs.Factors.{root_power, total_times};
+ghost use Rattle.ps_model.specs.Notation.{product};
+ghost use Rattle.ps_model.specs.SeriesRing.{Poly};
+ghost use Rattle.ps_model.specs.Job.{series_ring};
 ghost use Rattle.residue.specs.Residues.{number_of, IsResidue};
-ghost use Rattle.hensel_tool.specs.Plain.{power_of_variable};
-ghost use Rattle.hensel_tool.specs.PlainValue.{coefficient_of, main_power, number_in};
-ghost use Rattle.hensel_tool.specs.PlainValue.{power_of_main};
-ghost use Rattle.hensel_tool.specs.Origin.{input_at, is_at_power, origin_share, root_at};
-ghost use Rattle.hensel_tool.specs.Origin.{IsFirstDifference};
+ghost use Rattle.hensel_tool.specs.PlainValue.{main_power};
+ghost use Rattle.hensel_tool.specs.Origin.{input_at, roots_at, AreCoefficients, IsFirstDifference};
 
-use crate::script::PlainFactor;
-use crate::terms::{coefficient, power_of_main};
-use ps_model::OutOfMemory;
+use crate::script::PlainTerm;
+use crate::terms::{coefficient, has_variable, main_power};
+use ps_model::{OutOfMemory, Root};
 use residue::Modulus;
-use sqlite_items::Items;
 use std::alloc::Global;
 
 /// The greatest power of Y that is compared.
-const GREATEST_POWER: u32 = 32;
+const GREATEST_POWER: usize = 32;
 
 /// A power of Y at which the input and the product of the root powers have two coefficients.
 #[derive(Clone, Copy, Debug, PartialEq, Eq)]
@@ -29,67 +30,26 @@ pub struct Difference {
     pub roots: u64,
 }
 
-/// The coefficients of the sum of the terms at the origin, from Y^0 to Y^degree: each term is read
-/// once for each of them.
-pub fn input_row(
-    alloc: Global,
-    modulus: Modulus,
-    terms: &Items<Items<PlainFactor>>,
-    degree: u32,
-) -> Result<Vec<u64>, OutOfMemory>
-    requires { degree ≤ 32 }
-    ensures length { IfOk result (λ row. vec_len row ≡ degree + 1) }
-    ensures numbers { IfOk result (λ row. (p : ℕ) → p ≤ degree
-        → slice_index row.items p ≡ input_at (number_of modulus) terms.now p) }
-{
-    let mut row = Vec::new(alloc);
-    for power in 0..degree + 1 {
-        row.push(input_number(modulus, terms, power))?;
-    }
-    Ok(row)
-}
-
-/// The coefficients of (Y - value) ^ times, from Y^0 to Y^times, by times^2 / 2 products.
-pub fn root_row(
-    alloc: Global,
-    modulus: Modulus,
-    value: u64,
-    times: u32,
-) -> Result<Vec<u64>, OutOfMemory>
-    requires { IsResidue modulus value }
-    ensures length { IfOk result (λ row. vec_len row ≡ times + 1) }
-    ensures numbers { IfOk result (λ row. (p : ℕ)
-        → slice_index row.items p ≡ root_at (number_of modulus) value times p) }
-{
-    let constant = modulus.neg(value);
-    let mut row = Vec::new(alloc);
-    row.push(1)?;
-    for _ in 0..times {
-        row = next_row(alloc, modulus, constant, &row)?;
-    }
-    Ok(row)
-}
-
-/// The least power of Y at which the sum of the terms at the origin and the root's power differ.
+/// The least power of Y at which the sum of the terms at the origin and the product of the root
+/// powers differ.
 pub fn first_difference(
     alloc: Global,
     modulus: Modulus,
-    terms: &Items<Items<PlainFactor>>,
-    value: u64,
-    times: u32,
+    terms: &[PlainTerm],
+    roots: &[Root],
 ) -> Result<Option<Difference>, OutOfMemory>
-    requires powers { All (λ t. main_power t ≤ 32) terms.now }
-    requires residue { IsResidue modulus value }
-    requires degree { times ≤ 32 }
-    ensures { IfOk result (IsFirstDifference (number_of modulus) terms.now value times) }
+    requires powers { All (λ t. main_power t.factors ≤ 32) terms.now }
+    requires residues { All (λ r. IsResidue modulus r.value) roots.now }
+    requires degree { total_times roots.now ≤ 32 }
+    ensures { IfOk result (IsFirstDifference (number_of modulus) terms.now roots.now) }
 {
-    let input = input_row(alloc, modulus, terms, GREATEST_POWER)?;
-    let roots = root_row(alloc, modulus, value, times)?;
+    let input = input_row(alloc, modulus, terms)?;
+    let product = root_row(alloc, modulus, roots)?;
     for power in 0..GREATEST_POWER + 1 {
         let difference = Difference {
-            power,
-            input: number_at(&input, power as usize),
-            roots: number_at(&roots, power as usize),
+            power: power as u32,
+            input: number_at(&input, power),
+            roots: number_at(&product, power),
         };
         if difference.input != difference.roots {
             return Ok(Some(difference));
@@ -98,14 +58,68 @@ pub fn first_difference(
     Ok(None)
 }
 
-// The number at a place, 0 past the end.
+/// The coefficients of the sum of the terms at the origin, from Y^0 to Y^32, in one pass.
+fn input_row(alloc: Global, modulus: Modulus, terms: &[PlainTerm]) -> Result<Vec<u64>, OutOfMemory>
+    ensures { IfOk result (λ row. (p : ℕ) → p ≤ 32
+        → slice_index row.items p ≡ input_at (number_of modulus) terms.now p) }
+{
+    let mut row = vec![in alloc; 0; GREATEST_POWER + 1]?;
+    for term in terms {
+        let factors = term.factors.as_slice();
+        let power = main_power(factors);
+        if power <= GREATEST_POWER as u128 && !has_variable(factors) {
+            let place = power as usize;
+            row[place] = modulus.add(row[place], coefficient(modulus, term));
+        }
+    }
+    Ok(row)
+}
+
+/// The coefficients of the product of the root powers, by rising power of Y.
+fn root_row(alloc: Global, modulus: Modulus, roots: &[Root]) -> Result<Vec<u64>, OutOfMemory>
+    requires { All (λ r. IsResidue modulus r.value) roots.now }
+    ensures length { IfOk result (λ row. vec_len row ≡ total_times roots.now + 1) }
+    ensures numbers { IfOk result (λ row. (p : ℕ)
+        → slice_index row.items p ≡ roots_at (number_of modulus) roots.now p) }
+{
+    let mut row = Vec::new(alloc);
+    row.push(1)?;
+    for root in roots {
+        row = times_root(alloc, modulus, *root, row)?;
+    }
+    Ok(row)
+}
+
+/// The row of the root's power times f from that of f.
+fn times_root(
+    alloc: Global,
+    modulus: Modulus,
+    root: Root,
+    mut row: Vec<u64>,
+) -> Result<Vec<u64>, OutOfMemory>
+    requires residue { IsResidue modulus root.value }
+    requires residues { (p : ℕ) → slice_index row.items p < number_of modulus }
+    ensures length { IfOk result (λ next. vec_len next ≡ vec_len row + root.times) }
+    ensures numbers { IfOk result (λ next. (f : Poly (series_ring (number_of modulus)))
+        → AreCoefficients (number_of modulus) row.items f
+        → AreCoefficients (number_of modulus) next.items (product (root_power root) f)) }
+{
+    let constant = modulus.neg(root.value);
+    for _ in 0..root.times {
+        row = next_row(alloc, modulus, constant, &row)?;
+    }
+    Ok(row)
+}
+
+/// The number at a place, 0 past the end.
 fn number_at(row: &[u64], place: usize) -> u64
     ensures { result ≡ slice_index row.now place }
 {
     if place < row.len() { row[place] } else { 0 }
 }
 
-// The row of (Y + constant) * f from that of f: the number at p is row[p - 1] + constant * row[p].
+/// The row of (Y + constant) * f from that of f: the number at p is
+/// row[p - 1] + constant * row[p].
 fn next_row(
     alloc: Global,
     modulus: Modulus,
@@ -113,7 +127,7 @@ fn next_row(
     row: &[u64],
 ) -> Result<Vec<u64>, OutOfMemory>
     requires residue { IsResidue modulus constant }
-    requires residues { EachIndex row.now (λ k. slice_index row.now k < number_of modulus) }
+    requires residues { (p : ℕ) → slice_index row.now p < number_of modulus }
     ensures length { IfOk result (λ next. vec_len next ≡ length row.now + 1) }
     ensures numbers { IfOk result (λ next. (p : ℕ) → slice_index next.items p
         ≡ (slice_index (0 ∷ row.now) p + constant * slice_index row.now p) % number_of modulus) }
@@ -127,52 +141,4 @@ fn next_row(
     }
     next.push(below)?;
     Ok(next)
-}
-
-// The coefficient of a power of Y of the sum of the terms at the origin.
-fn input_number(modulus: Modulus, terms: &Items<Items<PlainFactor>>, power: u32) -> u64
-    ensures { result ≡ input_at (number_of modulus) terms.now power }
-{
-    let mut sum = 0;
-    for term in terms.as_slice() {
-        sum = modulus.add(sum, term_share(modulus, term.as_slice(), power));
-    }
-    sum
-}
-
-// What a term adds to the coefficient of a power of Y at the origin.
-fn term_share(modulus: Modulus, term: &[PlainFactor], power: u32) -> u64
-    ensures { result ≡ origin_share power term.now % number_of modulus }
-{
-    if is_at(term, power) {
-        coefficient(modulus, term)
-    } else {
-        0
-    }
-}
-
-// Whether a term has no variable, and this power of Y.
-fn is_at(term: &[PlainFactor], power: u32) -> bool
-    ensures { result ≡ is_at_power term.now power }
-{
-    let mut left = power;
-    for factor in term {
-        let taken = power_of_main(*factor);
-        if has_variable(*factor) || left < taken {
-            return false;
-        }
-        left -= taken;
-    }
-    left == 0
-}
-
-// Whether a factor is a power of the variable, above 0.
-fn has_variable(factor: PlainFactor) -> bool
-    ensures { result ≡ nat_lt 0 (power_of_variable factor) }
-{
-    match factor {
-        PlainFactor::Variable => true,
-        PlainFactor::VariablePower(power) => power > 0,
-        _ => false,
-    }
 }

@@ -1,15 +1,16 @@
-//! Scripts of the plain form: `mod N`, `vars NAME`, `poly M + M + ..`, `roots C:K` and perhaps
-//! `show D`, a line each.
+//! Scripts of the plain form: `mod N`, `vars NAME`, `poly M + M - ..`, `roots C:K -C:K ..` and
+//! perhaps `show D`, a line each.
 ghost use Rattle.std.specs.Prelude.{◌≡◌, Option, Some, None, IfOk, IfSome, IfNone};
 ghost use Rattle.hensel_tool.specs.Plain.{Plain, IsWritten};
 ghost use Rattle.hensel_tool.specs.PlainReading.{Gives, frame_in, frame_of, lines_in};
-ghost use Rattle.hensel_tool.specs.PlainReading.{modulus_in, name_in, root_in, request_in};
+ghost use Rattle.hensel_tool.specs.PlainReading.{modulus_in, name_in, request_in};
 ghost use Rattle.hensel_tool.specs.PlainReading.{script_in};
 ghost use Rattle.hensel_tool.specs.PlainView.{plain_view};
 ghost use Rattle.hensel_tool.specs.ReadingView.{lines_view, frame_view};
 
 use crate::polynomial::sum;
 use crate::reading::{cut, is_name, number, strip};
+use crate::root_texts::roots;
 use crate::script::PlainScript;
 use ps_model::OutOfMemory;
 use std::alloc::Global;
@@ -27,14 +28,13 @@ struct FourLines<'a> {
     behind: &'a [u8],
 }
 
-/// What a script says, with its polynomial as it is written.
+/// What a script says, with its polynomial and its roots as they are written.
 #[derive(Clone, Copy)]
 struct Frame<'a> {
     modulus: u64,
     name: &'a [u8],
     polynomial: &'a [u8],
-    root: u64,
-    times: u32,
+    roots: &'a [u8],
     request: Option<u32>,
 }
 
@@ -58,12 +58,14 @@ fn reading(alloc: Global, input: &[u8]) -> Result<Option<PlainScript<'_>>, OutOf
     let Some(terms) = sum(alloc, frame.name, frame.polynomial)? else {
         return Ok(None);
     };
+    let Some(roots) = roots(alloc, frame.roots)? else {
+        return Ok(None);
+    };
     Ok(Some(PlainScript {
         modulus: frame.modulus,
         name: frame.name,
         terms,
-        root: frame.root,
-        times: frame.times,
+        roots,
         request: frame.request,
     }))
 }
@@ -102,14 +104,13 @@ fn frame_of_lines(lines: FourLines<'_>) -> Option<Frame<'_>>
     let modulus = modulus(lines.first)?;
     let name = name(lines.second)?;
     let polynomial = strip(lines.third, b"poly ")?;
-    let (root, times) = root(lines.fourth)?;
+    let roots = strip(lines.fourth, b"roots ")?;
     let request = request(lines.behind)?;
     Some(Frame {
         modulus,
         name,
         polynomial,
-        root,
-        times,
+        roots,
         request,
     })
 }
@@ -134,20 +135,6 @@ fn name(line: &[u8]) -> Option<&[u8]>
         return None;
     }
     Some(name)
-}
-
-/// The root and its multiplicity.
-#[tactic(auto, unfolding(crate::specs::PlainReading::root_in))]
-fn root(line: &[u8]) -> Option<(u64, u32)>
-    ensures { Gives (λ p. p) result (root_in line.now) }
-{
-    let (root, times) = cut(strip(line, b"roots ")?, b':')?;
-    let root = number(root, u64::MAX)?;
-    let times = number(times, 32)?;
-    if times == 0 {
-        return None;
-    }
-    Some((root, times as u32))
 }
 
 /// The precision that is asked for, in the line behind the four, where there is one.

@@ -1,11 +1,11 @@
-//! Polynomials as they are written in the plain form: sums of products.
+//! Polynomials as they are written in the plain form: sums and differences of products.
 ghost use Rattle.std.specs.Prelude.{◌≡◌, IfOk};
 ghost use Rattle.std.specs.Str.{bytes_eq};
 ghost use Rattle.hensel_tool.specs.PlainReading.{Gives, factor_in, power_in, single_in, sum_in};
-ghost use Rattle.hensel_tool.specs.PlainReading.{term_in, is_byte as is_byte_of};
+ghost use Rattle.hensel_tool.specs.PlainReading.{next_sign_in, term_in, is_byte as is_byte_of};
 
-use crate::reading::{cut, number};
-use crate::script::PlainFactor;
+use crate::reading::{cut, number, sign};
+use crate::script::{PlainFactor, PlainTerm};
 use ps_model::OutOfMemory;
 use sqlite_items::Items;
 use std::alloc::Global;
@@ -13,34 +13,44 @@ use std::alloc::Global;
 /// The greatest exponent.
 const MOST_POWER: u64 = 255;
 
-/// The sum that the whole text is: terms with ` + ` between them. `None` where it is none.
-pub fn sum(
-    alloc: Global,
-    name: &[u8],
-    text: &[u8],
-) -> Result<Option<Items<Items<PlainFactor>>>, OutOfMemory>
+/// The sum that the whole text is: terms with ` + ` or ` - ` between them, and perhaps a minus
+/// directly before the first. `None` where it is none.
+pub fn sum(alloc: Global, name: &[u8], text: &[u8]) -> Result<Option<Items<PlainTerm>>, OutOfMemory>
     ensures { IfOk result (λ answer. Gives (λ terms. terms) answer (sum_in name.now text.now)) }
 {
     let mut terms = Items::new(alloc);
-    let mut rest = text;
+    let (mut minus, mut rest) = sign(text);
     while let Some((first, behind)) = cut(rest, b' ') {
-        let Some((plus, behind)) = cut(behind, b' ') else {
-            return Ok(None);
-        };
-        if !is_byte(plus, b'+') {
-            return Ok(None);
-        }
         let Some(factors) = term(alloc, name, first)? else {
             return Ok(None);
         };
-        terms.push(factors)?;
+        let Some((next, behind)) = next_sign(behind) else {
+            return Ok(None);
+        };
+        terms.push(PlainTerm { minus, factors })?;
+        minus = next;
         rest = behind;
     }
     let Some(factors) = term(alloc, name, rest)? else {
         return Ok(None);
     };
-    terms.push(factors)?;
+    terms.push(PlainTerm { minus, factors })?;
     Ok(Some(terms))
+}
+
+/// Whether the sign before a later term is a minus, and what is behind its blank.
+#[tactic(auto, unfolding(crate::specs::PlainReading::next_sign_in, crate::specs::PlainReading::sign_in))]
+fn next_sign(text: &[u8]) -> Option<(bool, &[u8])>
+    ensures { Gives (λ p. (p.0, p.1.now)) result (next_sign_in text.now) }
+{
+    let (sign, behind) = cut(text, b' ')?;
+    if is_byte(sign, b'-') {
+        return Some((true, behind));
+    }
+    if is_byte(sign, b'+') {
+        return Some((false, behind));
+    }
+    None
 }
 
 /// The term that the whole text is: factors with `*` between them. `None` where it is none.

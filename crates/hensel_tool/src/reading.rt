@@ -3,7 +3,7 @@ ghost use Rattle.std.specs.Prelude.{◌≡◌, ◌↔◌, ◌<◌, ◌^◌, true
 ghost use Rattle.std.specs.List.{list_all};
 ghost use Rattle.hensel_tool.specs.Numbers.{is_name as is_name_text};
 ghost use Rattle.hensel_tool.specs.Numbers.{is_name_byte as is_byte_of_name};
-ghost use Rattle.hensel_tool.specs.PlainReading.{Gives, cut_at, strip as strip_text};
+ghost use Rattle.hensel_tool.specs.PlainReading.{Gives, cut_at, strip as strip_text, signed};
 ghost use Rattle.hensel_tool.specs.PlainReading.{number_at_most};
 
 /// What is before the first such byte, and what is behind it.
@@ -23,6 +23,18 @@ pub fn strip<'a>(bytes: &'a [u8], text: &[u8]) -> Option<&'a [u8]>
     ensures { Gives (λ p. p.now) result (strip_text text.now bytes.now) }
 {
     bytes.strip_prefix(text)
+}
+
+/// Whether a minus stands first, and what is behind it.
+#[tactic(auto, unfolding(crate::specs::PlainReading::signed))]
+pub fn sign(text: &[u8]) -> (bool, &[u8])
+    ensures minus { result.0 ≡ (signed text.now).0 }
+    ensures behind { result.1.now ≡ (signed text.now).1 }
+{
+    match strip(text, b"-") {
+        Some(behind) => (true, behind),
+        None => (false, text),
+    }
 }
 
 /// The number that the whole text stands for, where it is one of decimal digits up to the limit.

@@ -11,18 +11,31 @@ pub enum PlainFactor {
     MainPower(u32),
 }
 
+/// A term of the polynomial: a product, with a minus before it or without.
+#[derive(Debug, Drop)]
+pub struct PlainTerm {
+    pub minus: bool,
+    pub factors: Items<PlainFactor>,
+}
+
+/// A root as it is written, `C:K` or `-C:K`, of which the residue counts.
+#[derive(Clone, Copy, Debug, PartialEq, Eq)]
+pub struct PlainRoot {
+    pub minus: bool,
+    pub number: u64,
+    /// The root's multiplicity.
+    pub times: u32,
+}
+
 /// What a script of the plain form says.
 #[derive(Drop)]
 pub struct PlainScript<'a> {
     pub modulus: u64,
     /// The variable's name.
     pub name: &'a [u8],
-    /// The polynomial: a sum of products.
-    pub terms: Items<Items<PlainFactor>>,
-    /// The root as it is written, of which the residue counts.
-    pub root: u64,
-    /// The root's multiplicity.
-    pub times: u32,
+    /// The polynomial: sums and differences of products.
+    pub terms: Items<PlainTerm>,
+    pub roots: Items<PlainRoot>,
     /// The precision that is asked for.
     pub request: Option<u32>,
 }

@@ -11,3 +11,6 @@ pub mod Singles
 pub mod Found
 pub mod Rows
 pub mod Products
+pub mod Polynomials
+pub mod RowSlices
+pub mod RowsRead

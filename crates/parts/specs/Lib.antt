@@ -6,3 +6,7 @@ pub mod Terms
 pub mod PartValue
 pub mod TermLists
 pub mod AccumulatorValue
+pub mod Series
+pub mod RowsOfParts
+pub mod JobRows
+pub mod Props

@@ -1,5 +1,6 @@
 //! How many monomials there are, and how many are permitted.
 ghost use Rattle.std.specs.Prelude.{◌+◌, ◌≡◌, ◌≤◌, ◌↔◌, IsTrue};
+ghost use Rattle.parts.specs.JobRows.{IsPermitted};
 ghost use Rattle.ps_model.specs.Shift.{binomial};
 
 /// The greatest number of monomials of n variables up to a degree that a program may ask for.
@@ -22,7 +23,7 @@ pub fn monomials(n: u32, d: u32) -> u128
 /// Whether n variables are permitted up to degree d.
 pub fn permitted(n: u32, d: u32) -> bool
     requires { n ≤ 8 }
-    ensures { IsTrue result ↔ ((d ≤ 4095) × (binomial (n + d) n ≤ 32768)) }
+    ensures { IsTrue result ↔ IsPermitted n d }
 {
     d <= 4095 && monomials(n, d) <= MOST_MONOMIALS
 }

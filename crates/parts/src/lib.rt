@@ -9,6 +9,10 @@ mod terms;
 // how many monomials there are
 mod counting;
 
+// rows of parts: shared once more, and where those of a job's polynomial come from
+mod sharing;
+mod source;
+
 // sums, multiples and products
 mod arithmetic;
 mod dense;
@@ -24,6 +28,8 @@ pub use arithmetic::{product, scaled, sum};
 pub use counting::{monomials, permitted};
 pub use homogeneous::Part;
 pub use rings::Ring;
+pub use sharing::share;
+pub use source::RowSource;
 pub use sums::Accumulator;
 pub use terms::{Monomial, Term};
 

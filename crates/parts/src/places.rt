@@ -91,6 +91,8 @@ pub fn fill_powers(
 }
 
 /// Places terms as a row.
+// Inlined, since a product of parts with one term each is mostly this call.
+#[inline(always)]
 pub fn place_terms(
     row: &mut Vec<Placed>,
     sizes: &[usize],

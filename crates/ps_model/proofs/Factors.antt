@@ -63,7 +63,7 @@ module _ (R : Ring) where
   constant_flat p = ap (coefficient R (homogeneous_part R R.degree 0 p)) (sym R.y-zero) ∙ coefficient_flat p 0
       ∙ ap (coefficient R p) R.y-zero
 
-  monic_all : (D : ℕ) (rs : List Root) (fs : List (Polynomial R)) → EachIsFactor D rs fs → IsMonic (total_times rs)
+  pub monic_all : (D : ℕ) (rs : List Root) (fs : List (Polynomial R)) → EachIsFactor D rs fs → IsMonic (total_times rs)
       (product_of fs)
   monic_all D [] [] h = monic-one R
   monic_all D [] (f ∷ fs) h = absurd h
@@ -71,7 +71,7 @@ module _ (R : Ring) where
   monic_all D (r ∷ rs) (f ∷ fs) h = monic-product R r.times (total_times rs) f (product_of fs) h.0.monic
       (monic_all D rs fs h.1)
 
-  origin_all : (D : ℕ) (rs : List Root) (fs : List (Polynomial R)) → EachIsFactor D rs fs
+  pub origin_all : (D : ℕ) (rs : List Root) (fs : List (Polynomial R)) → EachIsFactor D rs fs
       → homogeneous_part R R.degree 0 (product_of fs) ≡ root_powers {R = R} rs
   origin_all D [] [] h = sym (truncated-zero R R.degree _) ∙ one_truncated
     where

@@ -55,3 +55,12 @@ pub mod AtOrigin
 pub mod FactorSums
 pub mod ShiftSums
 pub mod Divided
+pub mod PowerBounds
+pub mod TreeValues
+pub mod UnitsDecided
+pub mod JobRoots
+pub mod JobFactors
+pub mod TopTerms
+pub mod TreeLeads
+pub mod TreeDivisions
+pub mod JobValues

@@ -20,6 +20,8 @@ pub mod Plain
 pub mod Tree
 pub mod Value
 pub mod Job
+pub mod Divisions
+pub mod AcceptedJob
 pub mod PlainLists
 pub mod PlainPolynomial
 pub mod BlockText

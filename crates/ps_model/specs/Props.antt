@@ -3,7 +3,9 @@
 --     PartMap-IsSet, Poly-IsSet      maps and polynomials are sets
 --     IsSlice-IsProp, IsRow-IsProp, AreRows-IsProp, IsRowOf-IsProp      the facts on rows
 --     IsUnit-IsProp, IsPreparable-IsProp, IsPrepared-IsProp      the facts on pairs
---     IsFactor-IsProp, EachIsFactor-IsProp, IsFactorList-IsProp      the facts on factors
+--     IsFactor-IsProp, EachIsFactor-IsProp, IsFactorList-IsProp, AreFactorsOf-IsProp      the facts
+--         on factors
+--     IsValidTree-IsProp, IsAcceptedRoot-IsProp, IsAccepted-IsProp      the facts on trees and jobs
 use Rattle.std.specs.Prelude.{◌≡◌, ℕ, ◌*◌, ◌%◌, ◌<◌, List, [], ◌∷◌}
 use Rattle.std.proofs.Common.{sym, ◌∙◌, ap, arith}
 use Rattle.std.proofs.Math.Nat.{one-mul, mod-eq_of_lt}
@@ -12,6 +14,7 @@ use mathlib.Core.HLevel.{Σ_prop_path}
 use Rattle.std.specs.FinMap.{code}
 use Rattle.std.specs.Coded.{Coded, Coded-set, coded_ℕ, coded_list, le_prop}
 use Rattle.std.proofs.Math.Nat.{ℕ_set}
+use Rattle.std.proofs.Math.Bool.{Bool-set}
 use base.Stored.{coded_via}
 use Rattle.ps_model.specs.Keys.{Key, key_numbers}
 use Rattle.ps_model.specs.KeyLaws.{same_key_numbers}
@@ -23,6 +26,14 @@ use Rattle.ps_model.specs.declared.job.Root.{Root}
 use Rattle.ps_model.specs.Factors.{IsFactor, EachIsFactor, IsFactorList}
 use Rattle.ps_model.specs.Bounds.{IsSlice}
 use Rattle.ps_model.specs.Rows.{IsRow, AreRows, IsRowOf}
+use Rattle.ps_model.specs.declared.expr.Expr.{Expr, Number, Name, MainVariable, Sum', Product', Power'}
+use Rattle.ps_model.specs.declared.expr.Expr.{end_of-Expr, more_of-Expr}
+use Rattle.ps_model.specs.declared.expr.Expr.{Row_of-Summand, end_of-Summand, more_of-Summand}
+use Rattle.ps_model.specs.declared.expr.Expr.{Row_of-Factor, end_of-Factor, more_of-Factor}
+use Rattle.ps_model.specs.declared.job.JobData.{JobData}
+use Rattle.ps_model.specs.Tree.{IsValidTree, AreSummands, AreValidSummands, AreFactors, AreValidFactors}
+use Rattle.ps_model.specs.Job.{job_ring, AreFactorsOf}
+use Rattle.ps_model.specs.AcceptedJob.{IsAcceptedRoot, IsAccepted}
 
 abbrev pub coded_key : (n : ℕ) → Coded (Key n)
 coded_key n = coded_via (coded_list coded_ℕ) (key_numbers n) (same_key_numbers n)
@@ -87,3 +98,45 @@ EachIsFactor-IsProp S D (r ∷ rs) (f ∷ fs) = hlevel (IsFactor-IsProp S, EachI
 pub IsFactorList-IsProp : (S : SeriesRing) (D : ℕ) (F : Poly S) (roots : List Root) (fs : List (Poly S))
     → IsProp (IsFactorList D F roots fs)
 IsFactorList-IsProp S D F roots fs = hlevel (Poly-IsSet S, EachIsFactor-IsProp S)
+
+pub AreFactorsOf-IsProp : (job : JobData) (D : ℕ) (value : Poly (job_ring job)) (fs : List (Poly (job_ring job)))
+    → IsProp (AreFactorsOf job D value fs)
+AreFactorsOf-IsProp job D value fs = hlevel (Poly-IsSet (job_ring job), EachIsFactor-IsProp (job_ring job))
+
+AreSummands-IsProp : {m : _} (row : Row_of-Summand m) → IsProp (AreSummands row)
+AreSummands-IsProp end_of-Summand = hlevel
+AreSummands-IsProp (more_of-Summand minus of end_of-Summand) = hlevel Bool-set
+AreSummands-IsProp (more_of-Summand minus of (more_of-Summand m o rest)) = hlevel
+
+AreFactors-IsProp : {m : _} (row : Row_of-Factor m) → IsProp (AreFactors row)
+AreFactors-IsProp end_of-Factor = hlevel
+AreFactors-IsProp (more_of-Factor divide of end_of-Factor) = hlevel
+AreFactors-IsProp (more_of-Factor divide of (more_of-Factor d o rest)) = hlevel Bool-set
+
+mutual
+  pub IsValidTree-IsProp : (names : ℕ) (e : Expr) → IsProp (IsValidTree names e)
+  IsValidTree-IsProp names (Number c) = hlevel le_prop
+  IsValidTree-IsProp names (Name i) = hlevel le_prop
+  IsValidTree-IsProp names MainVariable = hlevel
+  IsValidTree-IsProp names (Sum' shape summands) =
+      hlevel (AreSummands-IsProp summands, AreValidSummands-IsProp names summands)
+  IsValidTree-IsProp names (Product' shape factors) =
+      hlevel (AreFactors-IsProp factors, AreValidFactors-IsProp names factors)
+  IsValidTree-IsProp names (Power' shape (more_of-Expr base end_of-Expr) exponent) =
+      hlevel (IsValidTree-IsProp names base, le_prop)
+
+  AreValidSummands-IsProp : {m : _} (names : ℕ) (row : Row_of-Summand m) → IsProp (AreValidSummands names row)
+  AreValidSummands-IsProp names end_of-Summand = hlevel
+  AreValidSummands-IsProp names (more_of-Summand minus of rest) =
+      hlevel (IsValidTree-IsProp names of, AreValidSummands-IsProp names rest)
+
+  AreValidFactors-IsProp : {m : _} (names : ℕ) (row : Row_of-Factor m) → IsProp (AreValidFactors names row)
+  AreValidFactors-IsProp names end_of-Factor = hlevel
+  AreValidFactors-IsProp names (more_of-Factor divide of rest) =
+      hlevel (IsValidTree-IsProp names of, AreValidFactors-IsProp names rest)
+
+pub IsAcceptedRoot-IsProp : (m : ℕ) (r : Root) → IsProp (IsAcceptedRoot m r)
+IsAcceptedRoot-IsProp m r = hlevel le_prop
+
+pub IsAccepted-IsProp : (job : JobData) → IsProp (IsAccepted job)
+IsAccepted-IsProp job = hlevel (le_prop, IsValidTree-IsProp, IsAcceptedRoot-IsProp)

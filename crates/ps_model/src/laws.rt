@@ -2,7 +2,7 @@
 //! modulus from 2 on, prime or not, every number of variables and all positive weights.
 //! `specs/Notation.antt` has the words for polynomials.
 ghost use Rattle.std.specs.Prelude.{◌≡◌, ℕ, suc, ◌+◌, ◌-◌, ◌*◌, ◌^◌, ◌%◌, ◌<◌, ◌≤◌, ◌==◌, ◌↔◌};
-ghost use Rattle.std.specs.Prelude.{min, nat_le, if◌then◌else◌};
+ghost use Rattle.std.specs.Prelude.{◌≢◌, min, nat_le, if◌then◌else◌};
 ghost use Rattle.std.specs.Prelude.{List, [], ◌∷◌, ◌++◌, length, drop, slice_index_or};
 ghost use Rattle.std.specs.Ordering.{eq_by_cmp};
 ghost use Rattle.ps_model.specs.Sums.{total};
@@ -25,6 +25,13 @@ ghost use Rattle.ps_model.specs.Rows.{IsRow, AreRows, IsRowOf};
 ghost use Rattle.ps_model.specs.declared.job.Root.{Root};
 ghost use Rattle.ps_model.specs.Factors.{total_times, product_from, each_truncated};
 ghost use Rattle.ps_model.specs.Factors.{IsFactorable, IsFactorList};
+ghost use Rattle.ps_model.specs.declared.expr.Expr.{Expr};
+ghost use Rattle.ps_model.specs.Value.{IsValue, HasLead};
+ghost use Rattle.ps_model.specs.declared.job.JobData.{JobData};
+ghost use Rattle.ps_model.specs.Tree.{formal_degree, IsValidTree};
+ghost use Rattle.ps_model.specs.Job.{job_ring, IsFactors};
+ghost use Rattle.ps_model.specs.Divisions.{DividesByUnits};
+ghost use Rattle.ps_model.specs.AcceptedJob.{IsAccepted};
 
 /// Coefficients are residues, and fix a polynomial. What those of a sum, a product, a truncation
 /// and a homogeneous part are, and what the two bounds say of them.
@@ -86,6 +93,28 @@ pub fn truncation_laws()
     ensures same_parts { (S : SeriesRing) (D : ℕ) (p q : Poly S) →
         ((r : ℕ) → r ≤ D → homogeneous_part r p ≡ homogeneous_part r q) →
         truncated D p ≡ truncated D q }
+{}
+
+/// Values of well-formed trees: exactly one up to each degree D where the tree divides by units,
+/// and none elsewhere. It has no power of Y above the formal degree, and truncated at d it is the
+/// value there. Where the leading number is known by the tree's form, it is the coefficient of
+/// Y ^ formal_degree, at every degree in the variables.
+pub fn l1()
+    ensures value { (S : SeriesRing) (names D : ℕ) (e : Expr) →
+        IsValidTree names e → DividesByUnits S e → ExactlyOne (IsValue S D e) }
+    ensures divides { (S : SeriesRing) (names D : ℕ) (e : Expr) (p : Poly S) →
+        IsValidTree names e → IsValue S D e p → DividesByUnits S e }
+    ensures truncated { (S : SeriesRing) (d D : ℕ) (e : Expr) (p : Poly S) → d ≤ D →
+        IsValue S D e p → IsValue S d e (truncated d p) }
+    ensures no_power_above { (S : SeriesRing) (names D : ℕ) (e : Expr) (p : Poly S) →
+        IsValidTree names e → IsValue S D e p → HasNoPowerAbove (formal_degree e) p }
+    ensures lead { (S : SeriesRing) (names D l : ℕ) (e : Expr) (p : Poly S) →
+        IsValidTree names e → HasLead S e l → IsValue S D e p →
+        coefficient p (y_key S.variables (formal_degree e)) ≡ l }
+    ensures lead_alone { (S : SeriesRing) (names D l : ℕ) (e : Expr) (p : Poly S) →
+        IsValidTree names e → HasLead S e l → IsValue S D e p →
+        (k : Key S.variables) → k.y ≡ formal_degree e →
+        k ≢ y_key S.variables (formal_degree e) → coefficient p k ≡ 0 }
 {}
 
 /// Weierstrass preparation: up to each degree D, exactly one product of a polynomial that is
@@ -290,4 +319,29 @@ pub fn stage_laws()
         product_from e s (each_truncated e fs) ≡ truncated e (product_from D s fs) }
     ensures same { (S : SeriesRing) (G H : Poly S) (k q D : ℕ) (p u : Poly S) →
         truncated D G ≡ truncated D H → IsPrepared G k q D p u → IsPrepared H k q D p u }
+{}
+
+/// Values of trees: up to each degree one at most, and truncated at d it is the value there.
+pub fn value_laws()
+    ensures only { (S : SeriesRing) (D : ℕ) (e : Expr) (p q : Poly S) →
+        IsValue S D e p → IsValue S D e q → p ≡ q }
+    ensures truncated { (S : SeriesRing) (d D : ℕ) (e : Expr) (p : Poly S) → d ≤ D →
+        IsValue S D e p → IsValue S d e (truncated d p) }
+{}
+
+/// Factors of an accepted job. Its formal degree is the sum of the multiplicities, at most 32. The
+/// value of which they are the factors is factorable by the roots, and they are its list. At each
+/// degree there is exactly one list, and truncated at d it is the list there.
+pub fn job_laws()
+    ensures degree { (job : JobData) → IsAccepted job →
+        (total_times job.roots ≡ formal_degree job.expr) × (formal_degree job.expr ≤ 32) }
+    ensures factorable { (job : JobData) (D : ℕ) (fs : List (Poly (job_ring job))) →
+        IsAccepted job → IsFactors job D fs →
+        (F : Poly (job_ring job)) × IsValue (job_ring job) D job.expr F
+        × IsFactorable F job.roots × IsFactorList D F job.roots fs }
+    ensures only { (job : JobData) (D : ℕ) (fs gs : List (Poly (job_ring job))) →
+        IsAccepted job → IsFactors job D fs → IsFactors job D gs → fs ≡ gs }
+    ensures truncated { (job : JobData) (d D : ℕ) (fs : List (Poly (job_ring job))) → d ≤ D →
+        IsFactors job D fs → IsFactors job d (each_truncated d fs) }
+    ensures factors { (job : JobData) (D : ℕ) → IsAccepted job → ExactlyOne (IsFactors job D) }
 {}

@@ -2,3 +2,4 @@ pub mod Triangles
 pub mod PartRows
 pub mod Shares
 pub mod ShiftedRows
+pub mod Unshifted

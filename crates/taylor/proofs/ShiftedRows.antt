@@ -1,46 +1,40 @@
 -- A row whose parts are those of the shift is the shifted row.
-use Rattle.std.proofs.Common.{◌≡◌, ℕ, suc, ◌-◌, ◌<◌, ◌≤◌, List, length, get_or, ◌∙◌, ap, arith}
-use Rattle.std.specs.FinMap.{empty}
-use Rattle.std.proofs.lemmas.List.{get_or-map}
-use Rattle.ps_model.specs.Polynomial.{of_map}
+use Rattle.std.proofs.Common.{◌≡◌, ℕ, suc, ◌-◌, ◌*◌, ◌^◌, ◌<◌, ◌≤◌, List, length, get_or, sym, ◌∙◌, ap, arith}
+use Rattle.ps_model.specs.Notation.{scaled, sum_between}
+use Rattle.ps_model.specs.Rows.{part_of}
 use Rattle.ps_model.specs.SeriesRing.{ring as ring_of}
-use Rattle.ps_model.specs.Rows.{IsRow}
+use Rattle.ps_model.specs.Shift.{binomial}
 use Rattle.ps_model.proofs.RowsOf.{shifted_row}
 use Rattle.parts.specs.declared.rings.Ring.{Ring}
 use Rattle.parts.specs.PartValue.{PartValue}
-use Rattle.taylor.specs.Shifts.{series_of, degree_of, maps, shifted_up_to, AreParts, IsPartOfShift}
-use Rattle.taylor.specs.Shifts.{IsShifted}
-use Rattle.taylor.proofs.PartRows.{is_row}
+use Rattle.parts.specs.RowsOfParts.{nothing, IsRowOfParts}
+use Rattle.parts.specs.Series.{series, row_maps}
+use Rattle.parts.proofs.Polynomials.{part_of-row}
+use Rattle.parts.proofs.RowSlices.{row_is}
+use Rattle.taylor.specs.Shifts.{shifted_up_to, IsPartOfShift, IsShiftedRow}
 
--- what stands past the end of a row
-no_part : PartValue
-no_part = record { degree = 0; map = empty }
+module _ (ring : Ring) (c K r : ℕ) (row out : List PartValue) (is : IsRowOfParts ring K r row)
+    (same : length out ≡ length row)
+    (each : (i : ℕ) (other : PartValue) → i < length row → IsPartOfShift ring c row i (get_or out i other)) where
+  -- a row of the same degree
+  pub is_row : IsRowOfParts ring K r out
+  is_row = record {
+    places = same ∙ is.places;
+    degrees = λ i other lt. (each i other (omega arith)).degree ∙ is.degrees i nothing (omega arith);
+    parts = λ i other lt. (each i other (omega arith)).part;
+  }
 
-module _ (ring : Ring) (c : ℕ) (ps out : List PartValue) (some : 0 < length ps)
-    (are : AreParts ring (degree_of ps) ps) (same : length out ≡ length ps)
-    (each : (i : ℕ) (other : PartValue) → i < length ps → IsPartOfShift ring c ps i (get_or out i other)) where
-  last_place : length ps ≡ suc (length ps - 1)
-  last_place = omega arith
+  part_is : (i : ℕ) → i ≤ K → part_of (ring_of (series ring)) (row_maps ring out) i
+      ≡ sum_between i (suc K)
+      (λ j. scaled (binomial j i * c ^ (j - i)) (part_of (ring_of (series ring)) (row_maps ring row) j))
+  part_is i le = part_of-row ring out i ∙ (each i nothing (let n = is.places in omega arith)).polynomial
+      ∙ ap (shifted_up_to ring c row i) is.places
+      ∙ λ l. sum_between i (suc K) (λ j. scaled (binomial j i * c ^ (j - i)) (sym (part_of-row ring row j) l))
 
-  pub are_parts : AreParts ring (degree_of ps) out
-  are_parts = λ i other lt. (each i other (omega arith)).at
-
-  row_is : IsRow (ring_of (series_of ring)) (length ps - 1) (degree_of ps) (maps ps)
-  row_is = is_row ring (length ps - 1) (degree_of ps) ps last_place are
-
-  out_is : IsRow (ring_of (series_of ring)) (length ps - 1) (degree_of ps) (maps out)
-  out_is = is_row ring (length ps - 1) (degree_of ps) out (same ∙ last_place) are_parts
-
-  part_is : (i : ℕ) → i ≤ length ps - 1 → of_map (ring_of (series_of ring)) (get_or (maps out) i empty)
-      ≡ shifted_up_to ring c ps i (suc (length ps - 1))
-  part_is i le = ap (of_map (ring_of (series_of ring)))
-      (get_or-map (λ (p : PartValue). p.map) out i no_part empty (omega arith))
-      ∙ (each i no_part (omega arith)).polynomial ∙ ap (shifted_up_to ring c ps i) last_place
-
-  pub is_shifted : IsShifted ring c ps out
+  pub is_shifted : IsShiftedRow ring c K r row out
   is_shifted = record {
-    row = row_is;
-    out_row = out_is;
-    polynomial = shifted_row (ring_of (series_of ring)) c (length ps - 1) (degree_of ps) (maps ps) (maps out) row_is
-        out_is part_is;
+    row_is = row_is ring K r row is;
+    out_is = row_is ring K r out is_row;
+    polynomial = shifted_row (ring_of (series ring)) c K r (row_maps ring row) (row_maps ring out)
+        (row_is ring K r row is) (row_is ring K r out is_row) part_is;
   }

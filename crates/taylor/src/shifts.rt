@@ -1,10 +1,11 @@
 //! Shifts of rows of parts.
-ghost use Rattle.std.specs.Prelude.{◌≡◌, ◌+◌, ◌<◌, ◌≤◌, length, IfOk};
+ghost use Rattle.std.specs.Prelude.{◌≡◌, ℕ, ◌+◌, ◌<◌, ◌≤◌, length, IfOk};
 ghost use Rattle.parts.specs.Rings.{modulus_of};
-ghost use Rattle.taylor.specs.Shifts.{parts_in, degree_of, AreParts, IsShifted, IsPartOfShift};
+ghost use Rattle.parts.specs.RowsOfParts.{parts_of, IsRowOfParts};
+ghost use Rattle.taylor.specs.Shifts.{AreRowParts, IsPartOfShift, IsShiftedRow};
 
 use crate::binomials::Binomials;
-use parts::{Accumulator, Part, Ring};
+use parts::{Accumulator, Part, Ring, share};
 use ps_model::OutOfMemory;
 use std::alloc::Global;
 use std::sync::Arc;
@@ -12,7 +13,7 @@ use std::sync::Arc;
 /// The row of the polynomial with Y + c in place of Y.
 ///
 /// `row[j]` belongs to Y^j; all are of one degree, and so is the answer, of the same length. A row
-/// of n parts takes n (n + 1) / 2 multiples of parts.
+/// of n parts takes n (n + 1) / 2 multiples of parts; where c is 0 its parts are shared.
 pub fn shift(
     alloc: Global,
     ring: Ring,
@@ -20,18 +21,19 @@ pub fn shift(
     c: u64,
     row: &[Arc<Part>],
 ) -> Result<Vec<Arc<Part>>, OutOfMemory>
-    requires some { 0 < length row.now }
     requires short { length row.now ≤ table.now.size + 1 }
     requires same { table.now.modulus ≡ modulus_of ring }
     requires residue { c < modulus_of ring }
-    requires parts { AreParts ring (degree_of (parts_in row.now)) (parts_in row.now) }
-    requires low { degree_of (parts_in row.now) ≤ 4095 }
+    requires parts { AreRowParts ring (parts_of row.now) }
     ensures length { IfOk result (λ out. length out.items ≡ length row.now) }
-    ensures parts { IfOk result (λ out.
-        AreParts ring (degree_of (parts_in row.now)) (parts_in out.items)) }
-    ensures shifted { IfOk result (λ out.
-        IsShifted ring c (parts_in row.now) (parts_in out.items)) }
+    ensures parts { IfOk result (λ out. (K r : ℕ) → IsRowOfParts ring K r (parts_of row.now)
+        → IsRowOfParts ring K r (parts_of out.items)) }
+    ensures shifted { IfOk result (λ out. (K r : ℕ) → IsRowOfParts ring K r (parts_of row.now)
+        → IsShiftedRow ring c K r (parts_of row.now) (parts_of out.items)) }
 {
+    if c == 0 {
+        return share(alloc, row);
+    }
     let mut shifted = Vec::new(alloc);
     for i in 0..row.len() {
         let part = shifted_part(alloc, ring, table, c, row, i)?;
@@ -53,9 +55,8 @@ fn shifted_part(
     requires short { length row.now ≤ table.now.size + 1 }
     requires same { table.now.modulus ≡ modulus_of ring }
     requires residue { c < modulus_of ring }
-    requires parts { AreParts ring (degree_of (parts_in row.now)) (parts_in row.now) }
-    requires low { degree_of (parts_in row.now) ≤ 4095 }
-    ensures { IfOk result (IsPartOfShift ring c (parts_in row.now) i) }
+    requires parts { AreRowParts ring (parts_of row.now) }
+    ensures { IfOk result (IsPartOfShift ring c (parts_of row.now) i) }
 {
     // the sum over j from i on of C(j, i) * c^(j - i) * row[j]
     let modulus = ring.modulus();

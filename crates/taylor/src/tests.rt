@@ -1,6 +1,7 @@
 //! Values by hand, and each call that takes memory once on its happy path.
-ghost use Rattle.std.specs.Prelude.{◌≡◌, length, IfOk};
-ghost use Rattle.taylor.specs.Shifts.{parts_in, AreParts};
+ghost use Rattle.std.specs.Prelude.{◌≡◌, ◌-◌, ◌<◌, ◌≤◌, length, IfOk};
+ghost use Rattle.residue.specs.Residues.{number_of};
+ghost use Rattle.parts.specs.RowsOfParts.{parts_of, IsRowOfParts};
 
 use crate::{Binomials, SharedBinomials, Table, shift};
 use parts::{Part, Ring};
@@ -9,11 +10,14 @@ use residue::Modulus;
 use std::alloc::Global;
 use std::sync::Arc;
 use std::test::Fail;
+use std::thread::join;
 
 /// A row of constants.
 fn constants(alloc: Global, ring: Ring, numbers: &[u64]) -> Result<Vec<Arc<Part>>, OutOfMemory>
+    requires { 0 < length numbers.now }
     ensures length { IfOk result (λ row. length row.items ≡ length numbers.now) }
-    ensures parts { IfOk result (λ row. AreParts ring 0 (parts_in row.items)) }
+    ensures parts { IfOk result (λ row.
+        IsRowOfParts ring (length numbers.now - 1) 0 (parts_of row.items)) }
 {
     let mut row = Vec::new(alloc);
     for c in numbers {
@@ -31,11 +35,15 @@ fn a_square_is_shifted(rt: HostRuntime) -> Result<(), Fail> {
     // Y^2 with Y + 3 in place of Y: 9 + 6 Y + Y^2, and 9 leaves 2
     let row = constants(alloc, ring, &[0, 0, 1])?;
     let shifted = shift(alloc, ring, &table, 3, &row)?;
-    assert_eq!(rt; shifted.len(), 3);
-    for (part, c) in shifted.iter().zip([2, 6, 1]) {
-        let terms = part.terms();
-        assert_eq!(rt; terms.len(), 1);
-        assert_eq!(rt; terms[0].coefficient, c);
+    // and with Y + 0 in place of Y the same again
+    let same = shift(alloc, ring, &table, 0, &shifted)?;
+    for row in [&shifted, &same] {
+        assert_eq!(rt; row.len(), 3);
+        for (part, c) in row.iter().zip([2, 6, 1]) {
+            let terms = part.terms();
+            assert_eq!(rt; terms.len(), 1);
+            assert_eq!(rt; terms[0].coefficient, c);
+        }
     }
     Ok(())
 }
@@ -45,7 +53,7 @@ fn a_table_is_made_once(rt: HostRuntime) -> Result<(), Fail> {
     let shared = SharedBinomials::new(rt.alloc());
     let seven = Modulus::new(7)?;
     let nine = Modulus::new(9)?;
-    for size in [4, 3] {
+    for size in [4, 4, 3] {
         let table = shared.table(seven, size)?;
         assert!(rt;
             matches!(&table, Table::Shared(_)),
@@ -63,6 +71,33 @@ fn a_table_is_made_once(rt: HostRuntime) -> Result<(), Fail> {
                 assert_eq!(rt; found.size(), 4);
             }
         }
+    }
+    Ok(())
+}
+
+/// The modulus and the size of the table that is found.
+fn found(shared: &SharedBinomials, modulus: Modulus, size: u32) -> Result<(u64, u32), OutOfMemory>
+    requires { size ≤ 32 }
+    ensures { IfOk result (λ table. (table.0 ≡ number_of modulus) × (size ≤ table.1)) }
+{
+    let table = shared.table(modulus, size)?;
+    let table = table.binomials();
+    Ok((table.modulus().value(), table.size()))
+}
+
+#[test]
+fn two_threads_ask_at_once(rt: HostRuntime) -> Result<(), Fail> {
+    let seven = Modulus::new(7)?;
+    let nine = Modulus::new(9)?;
+    for (other, size) in [(seven, 4), (nine, 5)] {
+        let shared = SharedBinomials::new(rt.alloc());
+        let (left, right) = join(
+            &rt,
+            || found(&shared, seven, 4),
+            || found(&shared, other, size),
+        );
+        assert_eq!(rt; left?, (7, 4));
+        assert_eq!(rt; right?, (other.value(), size));
     }
     Ok(())
 }

@@ -1,69 +1,50 @@
-//! Blocks by hand.
-ghost use Rattle.std.specs.Prelude.{◌≡◌, IfOk};
-
-use crate::block::block;
-use crate::script::{PlainFactor, PlainScript};
+//! Pieces of blocks by hand.
+use crate::block::{push_head, push_precision, push_terms};
+use parts::{Part, Ring, product, scaled, sum};
+use ps_model::Root;
 use residue::Modulus;
-use sqlite_items::Items;
-use std::alloc::{AllocError, Global};
 use std::test::Fail;
 
-/// The script modulo 6 of the terms with these numbers, powers of x and powers of Y, with the root
-/// 8 and this multiplicity.
-fn script(
-    alloc: Global,
-    terms: &[(u64, u32, u32)],
-    times: u32,
-) -> Result<PlainScript<'static>, AllocError>
-    ensures modulus { IfOk result (λ s. s.modulus ≡ 6) }
-    ensures times { IfOk result (λ s. s.times ≡ times) }
-{
-    let mut sum = Items::new(alloc);
-    for (number, power, main) in terms {
-        let factors = [
-            PlainFactor::Number(*number),
-            PlainFactor::VariablePower(*power),
-            PlainFactor::MainPower(*main),
-        ];
-        sum.push(Items::from_slice(alloc, &factors)?)?;
-    }
-    Ok(PlainScript {
-        modulus: 6,
-        name: b"x",
-        terms: sum,
-        root: 8,
-        times,
-        request: None,
-    })
-}
-
 #[test]
-fn a_block_tells_each_coefficient(rt: HostRuntime) -> Result<(), Fail> {
+fn terms_stand_by_falling_powers(rt: HostRuntime) -> Result<(), Fail> {
     let alloc = rt.alloc();
-    // Y^2 + 5*x*Y + 2*x^3 + 3*x*Y + 4*x + 2 + 9*x^4, of which the last is above the precision
-    let terms = [
-        (1, 0, 2),
-        (5, 1, 1),
-        (2, 3, 0),
-        (3, 1, 1),
-        (4, 1, 0),
-        (2, 0, 0),
-        (9, 4, 0),
-    ];
-    let script = script(alloc, &terms, 2)?;
-    let text = block(alloc, Modulus::new(6)?, &script, 3)?;
-    let wanted = b"precision 3\nfactor 1 root 2 times 2\nY^2: 1\nY^1: 2*x\nY^0: 2 + 4*x + 2*x^3\n";
+    let ring = Ring::new(Modulus::new(7)?, 2);
+    // (x + 3*z)^2 = x^2 + 6*x*z + 2*z^2 modulo 7
+    let x = Part::variable(alloc, ring, 0)?;
+    let z = Part::variable(alloc, ring, 1)?;
+    let line = sum(alloc, ring, &x, &scaled(alloc, ring, &z, 3)?)?;
+    let square = product(alloc, ring, &line, &line)?;
+    let mut text = Vec::new(alloc);
+    push_terms(&mut text, &[b"x", b"z"], line.terms(), false)?;
+    push_terms(&mut text, &[b"x", b"z"], square.terms(), true)?;
+    let wanted = b"1*x + 3*z + 1*x^2 + 6*x*z + 2*z^2";
     assert!(rt; text.as_slice() == wanted.as_slice());
     Ok(())
 }
 
 #[test]
-fn terms_that_cancel_leave_0(rt: HostRuntime) -> Result<(), Fail> {
+fn no_terms_have_no_text(rt: HostRuntime) -> Result<(), Fail> {
     let alloc = rt.alloc();
-    let terms = [(1, 0, 1), (2, 3, 0), (4, 3, 0)];
-    let script = script(alloc, &terms, 1)?;
-    let text = block(alloc, Modulus::new(6)?, &script, 4095)?;
-    let wanted = b"precision 4095\nfactor 1 root 2 times 1\nY^1: 1\nY^0: 0\n";
+    let mut text = Vec::new(alloc);
+    push_terms(&mut text, &[b"x"], Part::zero(alloc, 3).terms(), true)?;
+    assert!(rt; text.is_empty());
+    Ok(())
+}
+
+#[test]
+fn a_head_tells_the_root(rt: HostRuntime) -> Result<(), Fail> {
+    let alloc = rt.alloc();
+    let mut text = Vec::new(alloc);
+    push_precision(&mut text, 4095)?;
+    push_head(
+        &mut text,
+        2,
+        Root {
+            value: 96,
+            times: 32,
+        },
+    )?;
+    let wanted = b"precision 4095\nfactor 2 root 96 times 32\n";
     assert!(rt; text.as_slice() == wanted.as_slice());
     Ok(())
 }

@@ -2,7 +2,7 @@ use Rattle.std.proofs.Common.{subst}
 use Rattle.std.specs.Prelude.{IfSome, IfNone}
 use Rattle.hensel_tool.specs.Plain.{Plain, IsWritten}
 use Rattle.hensel_tool.specs.PlainView.{plain_view}
-use Rattle.hensel_tool.proofs.Replies.{not_built_output, not_small}
+use Rattle.hensel_tool.proofs.Replies.{not_built_output, not_small, refused_reply, stops_at_once, on_err}
 use Rattle.hensel_tool.proofs.answer.answer_to.Goals as goal
 
 pub returns-then-not-is_small-clause-output : goal.returns-then-not-is_small-clause-output
@@ -10,14 +10,28 @@ returns-then-not-is_small-clause-output c =
     let input = c.args.input.now in
     let written = subst (λ o. IfSome o (λ s. IsWritten input (plain_view s))) c.in-Some.is
     c.in_ok-read.ensures.found in
-    not_built_output input _ _ (not_small input (plain_view c.in-Some.script) _ _ written c.as_slice.ensures
+    refused_reply input _ _ c.args.tally.now
+    (not_built_output input _ _ (not_small input (plain_view c.in-Some.script) _ _ written c.as_slice.ensures
     c.if-not-is_small.true c.is_small.ensures) c.in_ok-not_built-in-Some.ensures.text
-    c.in_ok-not_built-in-Some.ensures.status
+    c.in_ok-not_built-in-Some.ensures.status)
 
 pub returns-in_ok-not_built-in-None-clause-output : goal.returns-in_ok-not_built-in-None-clause-output
 returns-in_ok-not_built-in-None-clause-output c =
     let input = c.args.input.now in
     let other = subst (λ o. IfNone o ((s : Plain) → IsWritten input s → ⊥)) c.in-None.is
     c.in_ok-read.ensures.none in
-    not_built_output input _ _ (λ s is. other s is.written) c.in_ok-not_built-in-None.ensures.text
-    c.in_ok-not_built-in-None.ensures.status
+    refused_reply input _ _ c.args.tally.now
+    (not_built_output input _ _ (λ s is. other s is.written) c.in_ok-not_built-in-None.ensures.text
+    c.in_ok-not_built-in-None.ensures.status)
+
+pub returns-in_err-read-clause-stops : goal.returns-in_err-read-clause-stops
+returns-in_err-read-clause-stops c =
+    on_err c.from_residual.result _ (stops_at_once c.args.input.now c.args.tally.now)
+
+pub returns-in_err-not_built-in-None-clause-stops : goal.returns-in_err-not_built-in-None-clause-stops
+returns-in_err-not_built-in-None-clause-stops c =
+    on_err c.from_residual-in_err-not_built-in-None.result _ (stops_at_once c.args.input.now c.args.tally.now)
+
+pub returns-in_err-not_built-in-Some-clause-stops : goal.returns-in_err-not_built-in-Some-clause-stops
+returns-in_err-not_built-in-Some-clause-stops c =
+    on_err c.from_residual-in_err-not_built-in-Some.result _ (stops_at_once c.args.input.now c.args.tally.now)

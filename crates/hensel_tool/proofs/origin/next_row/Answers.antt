@@ -7,7 +7,7 @@ pub loop-number-preserved : goal.loop-number-preserved
 loop-number-preserved c = record {
   length = omega (arith, c.in_ok-push.ensures.len);
   below = number_below c.args.row.now c.loop-number.number-index;
-  small = c.requires.residues c.loop-number.number-index c.loop-number-test.true;
+  small = c.requires.residues c.loop-number.number-index;
   numbers = λ p lt. ap (λ l. get_or l p 0) c.in_ok-push.ensures.items
       ∙ pushed c.loop-number.next.items c.add.result c.loop-number.number-index
       (next_number c.args.modulus.value c.args.constant c.args.row.now) (omega arith)

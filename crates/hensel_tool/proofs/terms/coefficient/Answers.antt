@@ -1,20 +1,15 @@
-use Rattle.std.proofs.Common.{◌≡◌, ◌+◌, ◌*◌, ◌%◌, get_or, drop, ◌∙◌, ap, arith}
+-- The negative of a residue, and the residue itself.
+use Rattle.std.proofs.Common.{◌≡◌, ◌-◌, ◌*◌, ◌%◌, true, sym, ◌∙◌, ap}
 use Rattle.residue.specs.Residues.{number_of}
-use Rattle.hensel_tool.specs.PlainValue.{number_in, coefficient_of}
-use Rattle.hensel_tool.proofs.MeasuresSteps.{coefficient_step}
+use Rattle.hensel_tool.specs.PlainValue.{coefficient_of, sign_of}
+use Rattle.hensel_tool.proofs.Signs.{signed_mod}
 use Rattle.hensel_tool.proofs.terms.coefficient.Goals as goal
 
-pub loop-factor-preserved : goal.loop-factor-preserved
-loop-factor-preserved c =
+pub returns-then-term : goal.returns-then-term
+returns-then-term c =
     let m = number_of c.args.modulus in
-    let i = c.loop-factor.factor-index in
-    let p = c.loop-factor.product in
-    let number : c.reduce-number.result ≡ number_in (get_or c.args.term.now i _) % m =
-    c.reduce-number.ensures ∙ ap (λ n. n % m) c.number_of_factor.ensures in
-    let product : c.mul-product.result ≡ p * (number_in (get_or c.args.term.now i _) % m) % m =
-    c.mul-product.ensures ∙ ap (λ n. p * n % m) number in
-    record {
-      residue = omega arith;
-      left = ap (λ n. n * coefficient_of (drop (i + 1) c.args.term.now) % m) product
-          ∙ coefficient_step m p c.args.term.now i _ c.loop-factor-test.true ∙ c.loop-factor.invariant.left;
-    }
+    let product : c.product_of_numbers-product.result ≡ coefficient_of c.args.term.now.factors % m =
+    c.product_of_numbers-product.ensures ∙ ap (λ fs. coefficient_of fs % m) c.as_slice.ensures in
+    c.neg.ensures ∙ ap (λ n. (m - n) % m) product
+    ∙ signed_mod m (coefficient_of c.args.term.now.factors) true c.args.modulus.low
+    ∙ ap (λ b. (sign_of m b * coefficient_of c.args.term.now.factors) % m) (sym c.if-term.true)

@@ -1,0 +1,65 @@
+-- What a script of the form gives at the origin: its terms, its roots, and the two sides that are compared there.
+use Rattle.std.proofs.Common.{◌≡◌, ℕ, ◌-◌, ◌%◌, ◌<◌, ◌≤◌, true, false, if◌then◌else◌, List, [], ◌∷◌, map, refl}
+use Rattle.std.proofs.Common.{sym, ◌∙◌, ap, subst, arith}
+use Rattle.std.specs.List.{All}
+use Rattle.std.proofs.Math.Nat.{mod-lt}
+use Rattle.std.proofs.lemmas.List.Elements.{All-nil, All-cons}
+use Rattle.ps_model.specs.declared.job.Root.{Root}
+use Rattle.ps_model.specs.Keys.{y_key}
+use Rattle.ps_model.specs.Notation.{coefficient}
+use Rattle.ps_model.specs.SeriesRing.{ring}
+use Rattle.ps_model.specs.Job.{series_ring, AreAtOrigin, DifferAt}
+use Rattle.hensel_tool.specs.declared.script.PlainTerm.{PlainTerm}
+use Rattle.hensel_tool.specs.declared.script.PlainRoot.{PlainRoot}
+use Rattle.hensel_tool.specs.Plain.{Plain, IsPlain, IsSmall, plain_job, root_of}
+use Rattle.hensel_tool.specs.PlainValue.{main_power}
+use Rattle.hensel_tool.specs.Measures.{greatest_main_power}
+use Rattle.hensel_tool.specs.Origin.{input_at, roots_at}
+use Rattle.hensel_tool.proofs.MeasuresTrees.{plain_degree}
+use Rattle.hensel_tool.proofs.PlainMeaning.{AreTerms, written_terms, plain_is_value, plain_only_value}
+
+-- the terms of a script of the form
+pub plain_terms : (input : List ℕ) (s : Plain) → IsPlain input s → AreTerms s.terms
+plain_terms input s is = written_terms s.name is.written.polynomial s.terms is.written.polynomial_is
+
+-- terms of a small sum have small powers of Y
+low_terms : (ts : List PlainTerm) (n : ℕ) → greatest_main_power ts ≤ n
+    → All (λ (t : PlainTerm). main_power t.factors ≤ n) ts
+low_terms [] n le = All-nil _
+low_terms (t ∷ ts) n le =
+    All-cons (λ (t : PlainTerm). main_power t.factors ≤ n) t ts (omega arith) (low_terms ts n (omega arith))
+
+pub low_powers : (ts : List PlainTerm) → IsSmall ts → All (λ (t : PlainTerm). main_power t.factors ≤ 32) ts
+low_powers ts small = low_terms ts 32 (subst (λ n. n ≤ 32) (plain_degree ts) small.degree)
+
+-- roots are residues
+root_residue : (m : ℕ) (r : PlainRoot) → 0 < m → (root_of m r).value < m
+root_residue m r some =
+    elim r.minus as (λ b. (if b then (m - r.number % m) % m else r.number % m) < m) [
+      | true ↦ mod-lt _ some
+      | false ↦ mod-lt _ some
+    ]
+
+pub roots_residues : (m : ℕ) (rs : List PlainRoot) → 0 < m → All (λ (r : Root). r.value < m) (map (root_of m) rs)
+roots_residues m [] some = All-nil _
+roots_residues m (r ∷ rs) some =
+    All-cons (λ (r : Root). r.value < m) (root_of m r) (map (root_of m) rs) (root_residue m r some)
+    (roots_residues m rs some)
+
+pub at_least : (n k : ℕ) → (n < k → ⊥) → k ≤ n
+at_least n k h = omega arith
+
+module _ (s : Plain) (terms : AreTerms s.terms) where
+  -- the coefficients at the origin
+  pub at_origin : (p : ℕ) → AreAtOrigin (plain_job s) p (input_at s.modulus s.terms p)
+      (roots_at s.modulus (plain_job s).roots p)
+  unfolding input_at roots_at
+  at_origin p = (_, plain_is_value (series_ring s.modulus) 0 s.terms terms, refl, refl)
+
+  pub agree_at : (p : ℕ) → input_at s.modulus s.terms p ≡ roots_at s.modulus (plain_job s).roots p
+      → DifferAt (plain_job s) p → ⊥
+  unfolding input_at roots_at
+  agree_at p same (input, roots, (v, is, at, at'), ne) = ne (at
+      ∙ ap (λ q. coefficient {R = ring (series_ring s.modulus)} q (y_key (series_ring s.modulus).variables p))
+      (plain_only_value (series_ring s.modulus) 0 s.terms terms v is)
+      ∙ same ∙ sym at')

@@ -1,0 +1,37 @@
+-- Rows of parts of a job.
+--     IsPermitted n d      the degree d may be asked for with n variables
+--     IsRingOf ring job      the ring has the job's modulus and its number of variables
+--     AreJobParts job K r row      of degree r a part for each power of Y from 0 to K, of the job's ring
+--     IsInputRow job r row      the parts of degree r of the value of the job's tree, by power of Y from 0
+--         to its formal degree
+use Rattle.std.specs.Prelude.{◌≡◌, ℕ, ◌+◌, ◌≤◌, List}
+use Rattle.ps_model.specs.declared.job.JobData.{JobData}
+use Rattle.ps_model.specs.Job.{job_ring}
+use Rattle.ps_model.specs.Rows.{IsRowOf}
+use Rattle.ps_model.specs.SeriesRing.{Poly}
+use Rattle.ps_model.specs.Shift.{binomial}
+use Rattle.ps_model.specs.Tree.{formal_degree}
+use Rattle.ps_model.specs.Value.{IsValue}
+use Rattle.parts.specs.declared.rings.Ring.{Ring}
+use Rattle.parts.specs.PartValue.{PartValue}
+use Rattle.parts.specs.Rings.{modulus_of, variables_of}
+use Rattle.parts.specs.RowsOfParts.{IsRowOfParts}
+use Rattle.parts.specs.Series.{maps_modulo}
+
+-- n variables have at most 32768 monomials up to degree d
+abbrev pub IsPermitted : ℕ → ℕ → Type 0
+IsPermitted n d = (d ≤ 4095) × (binomial (n + d) n ≤ 32768)
+
+-- the ring in which a job's parts are
+abbrev pub IsRingOf : Ring → JobData → Type 0
+IsRingOf ring job = (modulus_of ring ≡ job.modulus) × (variables_of ring ≡ job.n)
+
+-- parts of degree r of the job's ring, for the powers of Y up to K
+abbrev pub AreJobParts : JobData → ℕ → ℕ → List PartValue → Type 0
+AreJobParts job K r row = (ring : Ring) → IsRingOf ring job → IsRowOfParts ring K r row
+
+-- the parts of degree r of what a job's tree stands for
+pub record IsInputRow (job : JobData) (r : ℕ) (row : List PartValue) : Type 0 where
+  pub parts : AreJobParts job (formal_degree job.expr) r row
+  pub slices : (v : Poly (job_ring job)) → IsValue (job_ring job) r job.expr v →
+      IsRowOf (formal_degree job.expr) r v (maps_modulo job.modulus row)

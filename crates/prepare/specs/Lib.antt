@@ -1,0 +1,3 @@
+pub mod PrepValue
+pub mod Calls
+pub mod Recurrence

@@ -1,0 +1,189 @@
+//! Preparations.
+ghost use Rattle.std.specs.Prelude.{◌≡◌, ℕ, ◌+◌, ◌-◌, ◌*◌, ◌%◌, ◌<◌, ◌≤◌};
+ghost use Rattle.std.specs.Prelude.{[], length, slice_index_or};
+ghost use Rattle.parts.specs.RowsOfParts.{parts_of, IsRowOfParts};
+ghost use Rattle.prepare.specs.PrepValue.{degrees_of};
+
+use crate::error::PrepError;
+use crate::first::{constant_term, lowest_below, power_of_y};
+use crate::recurrence::{Known, next_of_p, next_of_u};
+use crate::tally::Tally;
+use parts::{Part, Ring, share};
+use ps_model::OutOfMemory;
+use residue::NoInverse;
+use std::alloc::Global;
+use std::marker::Model;
+use std::sync::Arc;
+
+/// A polynomial in Y, so far as its degrees were given, as the product p * u of a polynomial p,
+/// monic of degree k in Y, and a unit u with no power of Y above q.
+///
+/// Row r of a factor has its parts of degree r, and place j of a row belongs to Y^j.
+#[derive(Drop)]
+pub struct Prep {
+    alloc: Global,
+    ring: Ring,
+    k: u32,
+    q: u32,
+    inverse: u64,
+    rows_p: Vec<Vec<Arc<Part>>>,
+    rows_u: Vec<Vec<Arc<Part>>>,
+}
+
+impl Model for Prep {
+    ghost use Rattle.prepare.specs.PrepValue.{PrepValue, prep_code, IsPrep};
+
+    ghost Value = { PrepValue };
+
+    ghost coded = { prep_code };
+
+    ghost use Rattle.parts.specs.RowsOfParts.{parts_in};
+
+    ghost view = { λ prep. record {
+      ring = prep.ring;
+      k = prep.k;
+      q = prep.q;
+      rows_p = parts_in prep.rows_p.items;
+      rows_u = parts_in prep.rows_u.items;
+    } };
+
+    ghost invariant = { λ prep. IsPrep (record {
+      ring = prep.ring;
+      k = prep.k;
+      q = prep.q;
+      rows_p = parts_in prep.rows_p.items;
+      rows_u = parts_in prep.rows_u.items;
+    }) prep.inverse };
+}
+
+impl Prep {
+    ghost use Rattle.std.specs.Prelude.{◌^◌, ◌↔◌, IfOk, OnOk, OnErr};
+    ghost use Rattle.parts.specs.Rings.{modulus_of};
+    ghost use Rattle.parts.specs.RowsOfParts.{part_in};
+    ghost use Rattle.parts.specs.Series.{constant_of};
+    ghost use Rattle.prepare.specs.Calls.{IsLowest, HasNoneBelow, IsWithoutInverse, Begins, Adds};
+
+    /// Prepares degree 0. `row0[j]` is the part of degree 0 of the coefficient of Y^j.
+    pub fn begin(
+        alloc: Global,
+        ring: Ring,
+        k: u32,
+        row0: &[Arc<Part>],
+        tally: &mut Tally,
+    ) -> Result<Prep, PrepError>
+        requires some { 1 ≤ k }
+        requires within { k < length row0.now }
+        requires few { length row0.now ≤ 33 }
+        requires row { IsRowOfParts ring (length row0.now - 1) 0 (parts_of row0.now) }
+        requires room { tally.old < 2 ^ 63 }
+        ensures ok { IfOk result (Begins ring k (parts_of row0.now)) }
+        ensures not_prepared { (power : ℕ) → (result ≡ Err (PrepError.NotPrepared power))
+            ↔ IsLowest k (parts_of row0.now) power }
+        ensures not_a_unit { (gcd : ℕ) → (result ≡ Err (PrepError.NotAUnit gcd))
+            ↔ IsWithoutInverse ring k (parts_of row0.now) gcd }
+        ensures ticks { OnOk result (tally.new ≡ tally.old + 1) }
+        ensures no_tick { OnErr result (tally.new ≡ tally.old) }
+    {
+        if let Some(power) = lowest_below(row0, k) {
+            return Err(PrepError::NotPrepared { power });
+        }
+        let constant = constant_term(ring, &row0[k as usize]);
+        let inverse = match ring.modulus().inverse(constant) {
+            Ok(inverse) => inverse,
+            Err(NoInverse { gcd }) => return Err(PrepError::NotAUnit { gcd }),
+        };
+        let prep = Prep::of_row(alloc, ring, k, inverse, row0)?;
+        tally.tick();
+        Ok(prep)
+    }
+
+    /// The preparation of degree 0, once its row is known to have one.
+    fn of_row(
+        alloc: Global,
+        ring: Ring,
+        k: u32,
+        inverse: u64,
+        row0: &[Arc<Part>],
+    ) -> Result<Prep, OutOfMemory>
+        requires some { 1 ≤ k }
+        requires within { k < length row0.now }
+        requires few { length row0.now ≤ 33 }
+        requires row { IsRowOfParts ring (length row0.now - 1) 0 (parts_of row0.now) }
+        requires none { HasNoneBelow k (parts_of row0.now) }
+        requires residue { inverse < modulus_of ring }
+        requires inverts { (constant_of ring (part_in (parts_of row0.now) k) * inverse)
+            % modulus_of ring ≡ 1 }
+        ensures { IfOk result (Begins ring k (parts_of row0.now)) }
+    {
+        let mut rows_p = Vec::new(alloc);
+        rows_p.push(power_of_y(alloc, ring, k)?)?;
+        let mut rows_u = Vec::new(alloc);
+        rows_u.push(share(alloc, &row0[k as usize..])?)?;
+        Ok(Prep {
+            alloc,
+            ring,
+            k,
+            q: row0.len() as u32 - 1 - k,
+            inverse,
+            rows_p,
+            rows_u,
+        })
+    }
+
+    /// Adds the next degree. `row[j]` is the part of that degree of the coefficient of Y^j.
+    pub fn step(&mut self, row: &[Arc<Part>], tally: &mut Tally) -> Result<(), OutOfMemory>
+        requires row { IsRowOfParts self.old.ring (self.old.k + self.old.q) (degrees_of self.old)
+            (parts_of row.now) }
+        requires permitted { degrees_of self.old ≤ 4095 }
+        requires room { tally.old < 2 ^ 63 }
+        ensures ok { OnOk result (Adds (parts_of row.now) self.old self.new) }
+        ensures err { OnErr result (self.new ≡ self.old) }
+        ensures ticks { OnOk result (tally.new ≡ tally.old + 1) }
+        ensures no_tick { OnErr result (tally.new ≡ tally.old) }
+    {
+        let known = Known {
+            alloc: self.alloc,
+            ring: self.ring,
+            k: self.k as usize,
+            q: self.q as usize,
+            rows_p: &self.rows_p,
+            rows_u: &self.rows_u,
+        };
+        let row_p = next_of_p(&known, self.inverse, row)?;
+        let row_u = next_of_u(&known, &row_p, row)?;
+        self.rows_p.push(row_p)?;
+        if self.rows_u.push(row_u).is_err() {
+            let _ = self.rows_p.pop();
+            return Err(OutOfMemory);
+        }
+        tally.tick();
+        Ok(())
+    }
+
+    /// How many degrees are there, from 0 on.
+    pub fn degrees(&self) -> u32
+        ensures degrees { result ≡ degrees_of self.now }
+        ensures begun { 1 ≤ result }
+        ensures permitted { result ≤ 4096 }
+    {
+        self.rows_p.len() as u32
+    }
+
+    /// The parts of degree r of the polynomial, from Y^0 to Y^k.
+    pub fn row_p(&self, r: u32) -> &[Arc<Part>]
+        requires { r < degrees_of self.now }
+        ensures row { parts_of result.now ≡ slice_index_or self.now.rows_p r [] }
+        ensures parts { IsRowOfParts self.now.ring self.now.k r (parts_of result.now) }
+    {
+        &self.rows_p[r as usize]
+    }
+
+    /// The parts of degree r of the unit, from Y^0 to Y^q.
+    pub fn row_u(&self, r: u32) -> &[Arc<Part>]
+        requires { r < degrees_of self.now }
+        ensures row { parts_of result.now ≡ slice_index_or self.now.rows_u r [] }
+        ensures parts { IsRowOfParts self.now.ring self.now.q r (parts_of result.now) }
+    {
+        &self.rows_u[r as usize]
+    }
+}

@@ -1,0 +1,13 @@
+pub mod RowPairs
+pub mod Prepares
+pub mod Splits
+pub mod Tables
+pub mod FirstRows
+pub mod Splitting
+pub mod LineTitles
+pub mod Growth
+pub mod Upstreams
+pub mod Rounds
+pub mod Permits
+pub mod Raises
+pub mod NewLines
