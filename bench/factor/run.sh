@@ -9,9 +9,7 @@ here=$(cd "$(dirname "$0")" && pwd)
 crate="$here/../../crates/hensel_tool"
 work=$(mktemp -d)
 trap 'rm -rf "$work"' EXIT
-if [ ! -x "$crate/out/hensel_tool" ]; then
-    (cd "$crate" && rt run >/dev/null)
-fi
+"$here/../../scripts/build" hensel_tool
 
 # the greatest resident memory of one run, in KiB
 memory() {

@@ -9,9 +9,7 @@ here=$(cd "$(dirname "$0")" && pwd)
 crate="$here/../../crates/prepare_speed"
 work=$(mktemp -d)
 trap 'rm -rf "$work"' EXIT
-if [ ! -x "$crate/out/prepare_speed" ]; then
-    (cd "$crate" && rt run -- 3 101 1 >/dev/null)
-fi
+"$here/../../scripts/build" prepare_speed
 g++ -O2 -std=c++17 -o "$work/compare" "$here/compare.cpp"
 
 # the least wall time of nine runs

@@ -1,6 +1,6 @@
 -- The job of a plain script: it is that of its terms, and it can be factored where it is valid.
 use Rattle.std.proofs.Common.{◌≡◌, ◌≢◌, ℕ, zero, suc, ◌-◌, ◌%◌, ◌<◌, ◌≤◌, Bool, true, false, List, [], ◌∷◌}
-use Rattle.std.proofs.Common.{length, get_or, refl, sym, subst, arith}
+use Rattle.std.proofs.Common.{length, get_or, replicate, refl, sym, subst, arith}
 use Rattle.std.proofs.Math.Nat.{mod-lt}
 use Rattle.std.proofs.lemmas.List.{get_or-map, length-map}
 use Rattle.ps_model.specs.declared.expr.Expr.{Expr, Sum}
@@ -9,7 +9,7 @@ use Rattle.ps_model.specs.declared.expr.Expr.TheBlock.{hidden-the_row-Summand-0,
 use Rattle.ps_model.specs.declared.expr.Expr.TheBlock.{hidden-the_row-Factor-1, shape-the_row-Factor-1}
 use Rattle.ps_model.specs.declared.expr.Expr.TheBlock.{hidden-the_row-Expr-2}
 use denote.Hole.Carrier.{hidden}
-use Rattle.ps_model.specs.AcceptedJob.{IsAccepted, IsAcceptedRoot}
+use Rattle.ps_model.specs.AcceptedJob.{IsAccepted, IsAcceptedRoot, AreWeights}
 use Rattle.ps_model.specs.Job.{IsValidJob}
 use Rattle.ps_model.specs.Tree.{IsValidTree, AreValidFactors, AreValidSummands}
 use Rattle.hensel_tool.specs.declared.script.PlainFactor.{PlainFactor}
@@ -96,6 +96,23 @@ some_roots : (roots : List PlainRoot) → roots ≢ [] → 0 < length roots
 some_roots [] h = absurd (h refl)
 some_roots (r ∷ roots) h = omega arith
 
+-- the weights of one variable, each 1
+one_each : AreWeights 1 (replicate 8 1)
+one_each = record {
+  eight = refl;
+  of_variables = λ i d lt. subst (λ w. (1 ≤ w) × (w ≤ 64)) (sym (only i d lt)) (omega arith, omega arith);
+  others = λ i d lt. replicated 7 i d lt;
+}
+  where
+    only : (i d : ℕ) → i < 1 → get_or (1 ∷ []) i d ≡ 1
+    only zero d lt = refl
+    only (suc i) d lt = absurd (omega arith)
+
+    replicated : (n i d : ℕ) → i < length {A = ℕ} (replicate n 1) → get_or (replicate n 1) i d ≡ 1
+    replicated zero i d lt = absurd (omega arith)
+    replicated (suc n) zero d lt = refl
+    replicated (suc n) (suc i) d lt = replicated n i d (omega arith)
+
 pub accepted : (input : List ℕ) (s : Plain) → IsPlain input s → IsValidJob (plain_job s) → IsAccepted (plain_job s)
 accepted input s is valid =
     let m = s.modulus in
@@ -103,6 +120,7 @@ accepted input s is valid =
     record {
       modulus = (written.modulus_is.1, written.modulus_is.2);
       variables = (omega arith, omega arith);
+      weights = one_each;
       tree = valid_plain s.name written.polynomial s.terms written.polynomial_is;
       some = subst (λ n. 0 < n) (sym (length-map s.roots (root_of m))) (some_roots s.roots written.roots_are.0);
       roots = λ i d lt. let low : i < length s.roots = subst (λ n. i < n) (length-map s.roots (root_of m)) lt in
@@ -123,6 +141,7 @@ pub job_of_terms : (s : Plain) (job : JobData) → IsOfForm s → job ≡ plain_
 job_of_terms s job (input, is) same = let terms = plain_terms input s is in
     subst (λ j. IsJobOfTerms j s.terms) (sym same) (record {
       variables = refl;
+      weights = refl;
       tree = refl;
       some = terms.some;
       filled = terms.filled;

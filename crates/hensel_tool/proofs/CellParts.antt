@@ -15,9 +15,11 @@ use Rattle.ps_model.proofs.Coefficients.{at_key, coefficient-polynomial, same_co
 use Rattle.ps_model.proofs.Maps.{entries-from_entries}
 use Rattle.parts.specs.declared.rings.Ring.{Ring}
 use Rattle.parts.specs.PartValue.{PartValue, IsPartOf, IsEntryOf}
-use Rattle.parts.specs.Rings.{modulus_of, weights_of}
+use Rattle.parts.specs.Rings.{modulus_of, weights_of, eight_weights}
 use Rattle.parts.specs.RowsOfParts.{IsRowOfParts}
-use Rattle.parts.specs.Terms.{IsKeyOf}
+use Rattle.parts.specs.TermLists.{AreTermsOf}
+use Rattle.parts.specs.Terms.{IsKeyOf, entry_of}
+use Rattle.parts.specs.declared.terms.Term.{Term}
 use Rattle.hensel_tool.specs.Coefficients.{power_key, cell_terms, cell_part}
 
 module _ (R : PolynomialRing) (k : R.Key) (c : ℕ) where
@@ -42,8 +44,8 @@ module _ (R : PolynomialRing) (k : R.Key) (c : ℕ) where
       ∙ unless_none (c == 0) refl
 
 -- with one variable of weight 1
-one_weight : (ring : Ring) → ring.n ≡ 1 → weights_of ring ≡ 1 ∷ []
-one_weight ring one = ap (λ ws. take ring.n ws) ring.ones ∙ ap (λ n. take n (replicate 8 1)) one
+one_weight : (ring : Ring) → ring.n ≡ 1 → eight_weights ring ≡ replicate 8 1 → weights_of ring ≡ 1 ∷ []
+one_weight ring one same = ap (λ ws. take ring.n ws) same ∙ ap (λ n. take n (replicate 8 1)) one
 
 key_is : (r : ℕ) → IsKeyOf (1 ∷ []) r (power_key r)
 key_is r = record { weighs = weigh r; is = refl }
@@ -51,9 +53,20 @@ key_is r = record { weighs = weigh r; is = refl }
     weigh : (r : ℕ) → 1 * r + 0 ≡ r
     weigh r = omega arith
 
+-- the term of a cell other than 0
+pub cell_term : (ring : Ring) (r c : ℕ) (t : Term) (ts : List Term) → ring.n ≡ 1 → eight_weights ring ≡ replicate 8 1
+    → c < modulus_of ring → 0 < c → entry_of t ≡ (power_key r, c) → ts ≡ t ∷ [] → AreTermsOf ring r ts
+cell_term ring r c t ts one same low some is alone = subst (AreTermsOf ring r) (sym alone) (record {
+  order = (tt, All-cons (λ (t : Term). 0 < t.coefficient) t [] (subst (λ e. 0 < e.1) (sym is) some) (All-nil _));
+  entries = All-cons (λ (t : Term). IsEntryOf (modulus_of ring) (weights_of ring) r (entry_of t)) t []
+      (subst (IsEntryOf (modulus_of ring) (weights_of ring) r) (sym is)
+      (subst (λ ws. IsKeyOf ws r (power_key r)) (sym (one_weight ring one same)) (key_is r), low)) (All-nil _);
+})
+
 -- a cell's part belongs to a ring of one variable
-pub cell_in : (ring : Ring) (r c : ℕ) → ring.n ≡ 1 → c < modulus_of ring → IsPartOf ring (cell_part r c)
-cell_in ring r c one low = subst (All (IsEntryOf (modulus_of ring) (weights_of ring) r))
+pub cell_in : (ring : Ring) (r c : ℕ) → ring.n ≡ 1 → eight_weights ring ≡ replicate 8 1 → c < modulus_of ring
+    → IsPartOf ring (cell_part r c)
+cell_in ring r c one same low = subst (All (IsEntryOf (modulus_of ring) (weights_of ring) r))
     (sym (entries-from_entries (key_compare 8) (key_compare_total 8) (key_compare-IsAntisymmetric 8) (cell_terms r c)
     (in_order (c == 0)))) (each (c == 0))
   where
@@ -64,13 +77,13 @@ cell_in ring r c one low = subst (All (IsEntryOf (modulus_of ring) (weights_of r
     each : (b : Bool) → All (IsEntryOf (modulus_of ring) (weights_of ring) r) (cond b [] ((power_key r, c) ∷ []))
     each true = All-nil _
     each false = All-cons (IsEntryOf (modulus_of ring) (weights_of ring) r) (power_key r, c) []
-        (subst (λ ws. IsKeyOf ws r (power_key r)) (sym (one_weight ring one)) (key_is r), low) (All-nil _)
+        (subst (λ ws. IsKeyOf ws r (power_key r)) (sym (one_weight ring one same)) (key_is r), low) (All-nil _)
 
 -- the parts of a row of cells
-pub cells_in : (ring : Ring) (K r : ℕ) (cells : List ℕ) → ring.n ≡ 1 → length cells ≡ suc K
+pub cells_in : (ring : Ring) (K r : ℕ) (cells : List ℕ) → ring.n ≡ 1 → eight_weights ring ≡ replicate 8 1 → length cells ≡ suc K
     → All (λ c. c < modulus_of ring) cells → IsRowOfParts ring K r (map (cell_part r) cells)
-cells_in ring K r cells one size low = record {
+cells_in ring K r cells one same size low = record {
   places = length-map cells (cell_part r) ∙ size;
   degrees = All-map (λ (p : PartValue). p.degree ≡ r) (cell_part r) cells (λ i d lt. refl);
-  parts = All-map (IsPartOf ring) (cell_part r) cells (λ i d lt. cell_in ring r (get_or cells i d) one (low i d lt));
+  parts = All-map (IsPartOf ring) (cell_part r) cells (λ i d lt. cell_in ring r (get_or cells i d) one same (low i d lt));
 }

@@ -1,7 +1,8 @@
 -- What a plain script's answer is: its job's first fault, or the block of its request.
 use Rattle.std.proofs.Common.{◌≡◌, ℕ, ◌⊎◌, inl, inr, List, [], ◌∷◌, Option, Some, None, refl, sym, ◌∙◌, subst}
 use Rattle.std.proofs.lemmas.Option.{none-some}
-use Rattle.ps_model.proofs.JobValues.{accepted_factors}
+use Rattle.ps_model.proofs.JobRoots.{accepted_lawful}
+use Rattle.ps_model.proofs.JobValues.{lawful_factors}
 use Rattle.ps_model.specs.BlockText.{block_text}
 use Rattle.ps_model.specs.Job.{job_ring, Fault, IsFactors, IsFirstFault, IsValidJob}
 use Rattle.ps_model.specs.SeriesRing.{Poly}
@@ -21,7 +22,7 @@ use Rattle.hensel_tool.proofs.PlainReadings.{script_is, script_same, only_one}
 pub valid_block : (input : List ℕ) (s : Plain) → IsPlain input s → IsValidJob (plain_job s) → (D : ℕ)
     → (text : List ℕ) × IsBlock s D text
 valid_block input s is valid D =
-    let one = accepted_factors (plain_job s) (accepted input s is valid) D in
+    let one = lawful_factors (plain_job s) (accepted_lawful (plain_job s) (accepted input s is valid)) D in
     (_, record { factors = one.one_value; are_factors = one.meets; is = refl })
 
 -- the block that is told of a job that is known to be the script's

@@ -6,7 +6,7 @@ use Rattle.ps_model.specs.Factors.{total_times}
 use Rattle.ps_model.specs.Tree.{formal_degree}
 use Rattle.ps_model.specs.Value.{HasLead}
 use Rattle.ps_model.specs.Job.{AreAtOrigin}
-use Rattle.ps_model.specs.Job.{job_ring, series_ring, told_count, NotMonic, DegreeMismatch, NotApart, RootsMismatch}
+use Rattle.ps_model.specs.Job.{job_ring, told_count, NotMonic, DegreeMismatch, NotApart, RootsMismatch}
 use Rattle.ps_model.specs.Job.{IsFault, IsFirstFault, IsValidJob}
 use Rattle.hensel_tool.specs.declared.script.PlainTerm.{PlainTerm}
 use Rattle.hensel_tool.specs.declared.script.PlainRoot.{PlainRoot}
@@ -18,6 +18,7 @@ use Rattle.hensel_tool.specs.Apart.{IsNearPair}
 use Rattle.hensel_tool.specs.Origin.{input_at, IsFirstDifference}
 use Rattle.hensel_tool.proofs.PlainOrigin.{plain_terms, at_origin, agree_at, at_least}
 use Rattle.hensel_tool.proofs.PlainFirstFaults.{not_monic, told_same, mismatch, not_apart, roots_differ, all_right}
+use Rattle.hensel_tool.specs.Plain.{plain_ring}
 
 not_both : false ≡ true → ⊥
 not_both e = absurd (cc)
@@ -28,15 +29,15 @@ module _ (s : Plain) (form : IsOfForm s) (n : ℕ) (same : n ≡ s.modulus) wher
 
   -- what the test of the leading number tells
   pub found_not_monic : (ts : List PlainTerm) (b : Bool) → ts ≡ s.terms → b ≡ false
-      → (IsTrue b ↔ HasLead (series_ring n) (plain_tree ts) 1) → IsFirstFault (plain_job s) NotMonic
+      → (IsTrue b ↔ HasLead (plain_ring n) (plain_tree ts) 1) → IsFirstFault (plain_job s) NotMonic
   found_not_monic ts b is other tells = not_monic s form.1.small (λ lead. not_both (sym other
-      ∙ tells.1 (subst (λ k. HasLead (series_ring k) (plain_tree ts) 1) (sym same)
-      (subst (λ us. HasLead (series_ring s.modulus) (plain_tree us) 1) (sym is) lead))))
+      ∙ tells.1 (subst (λ k. HasLead (plain_ring k) (plain_tree ts) 1) (sym same)
+      (subst (λ us. HasLead (plain_ring s.modulus) (plain_tree us) 1) (sym is) lead))))
 
   pub found_monic : (ts : List PlainTerm) (b : Bool) → ts ≡ s.terms → b ≡ true
-      → (IsTrue b ↔ HasLead (series_ring n) (plain_tree ts) 1) → lead_is_one
-  found_monic ts b is holds tells = subst (λ k. HasLead (series_ring k) (plain_tree s.terms) 1) same
-      (subst (λ us. HasLead (series_ring n) (plain_tree us) 1) is (tells.0 holds))
+      → (IsTrue b ↔ HasLead (plain_ring n) (plain_tree ts) 1) → lead_is_one
+  found_monic ts b is holds tells = subst (λ k. HasLead (plain_ring k) (plain_tree s.terms) 1) same
+      (subst (λ us. HasLead (plain_ring n) (plain_tree us) 1) is (tells.0 holds))
 
   -- the roots as residues are those of the job
   pub the_roots : (given : List PlainRoot) (rs : List Root) → given ≡ s.roots → rs ≡ map (root_of n) given

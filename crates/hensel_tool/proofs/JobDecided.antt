@@ -8,7 +8,7 @@ use Rattle.std.proofs.lemmas.List.Elements.{All-nil, All-cons, All-head, All-tai
 use Rattle.ps_model.specs.Factors.{total_times}
 use Rattle.ps_model.specs.Tree.{formal_degree, node_count}
 use Rattle.ps_model.specs.Value.{HasLead}
-use Rattle.ps_model.specs.Job.{job_ring, series_ring, told_count, Fault, NotMonic, DegreeMismatch, NotApart}
+use Rattle.ps_model.specs.Job.{job_ring, told_count, Fault, NotMonic, DegreeMismatch, NotApart}
 use Rattle.ps_model.specs.Job.{RootsMismatch, IsFault, IsFirstFault, IsValidJob}
 use Rattle.hensel_tool.specs.declared.script.PlainTerm.{PlainTerm}
 use Rattle.hensel_tool.specs.Plain.{Plain, IsSmall, plain_tree, plain_job, variable_power}
@@ -21,13 +21,14 @@ use Rattle.hensel_tool.proofs.PlainMeaning.{AreTerms}
 use Rattle.hensel_tool.proofs.PlainOrigin.{low_powers, at_origin, agree_at, at_least}
 use Rattle.hensel_tool.proofs.PlainFirstFaults.{not_monic, mismatch, not_apart, roots_differ, all_right}
 use Rattle.hensel_tool.proofs.Units.{pairs_decided}
+use Rattle.hensel_tool.specs.Plain.{plain_ring}
 
 -- whether the leading number is 1
-lead_decided : (m : ℕ) (ts : List PlainTerm) → HasLead (series_ring m) (plain_tree ts) 1
-    ⊎ (HasLead (series_ring m) (plain_tree ts) 1 → ⊥)
+lead_decided : (m : ℕ) (ts : List PlainTerm) → HasLead (plain_ring m) (plain_tree ts) 1
+    ⊎ (HasLead (plain_ring m) (plain_tree ts) 1 → ⊥)
 lead_decided m ts =
     let d = greatest_main_power ts in
-    let S = series_ring m in
+    let S = plain_ring m in
     elim (eqb_tells (variable_at d ts) 0) [
       | inr some ↦ inr (λ h. some.1 (plain_known S ts 1 h).constant)
       | inl none ↦ elim (eqb_tells (coefficient_at S.modulus d ts % S.modulus) 1) [

@@ -1,26 +1,20 @@
 -- How far a line is raised, and the steps that it takes.
-use Rattle.std.proofs.Common.{◌≡◌, ℕ, zero, suc, ◌+◌, ◌*◌, ◌<◌, ◌≤◌, List, [], ◌∷◌, length, get_or, replicate, refl, sym, ◌∙◌}
+use Rattle.std.proofs.Common.{◌≡◌, ℕ, zero, suc, ◌+◌, ◌*◌, ◌<◌, ◌≤◌, List, [], ◌∷◌, length, get_or, take, replicate, refl, sym, ◌∙◌}
 use Rattle.std.proofs.Common.{ap, subst, arith}
 use Rattle.std.specs.Prelude.{sum_by}
 use Rattle.std.proofs.lemmas.List.Sums.{sum_by-cons}
 use Rattle.ps_model.specs.declared.job.JobData.{JobData}
-use Rattle.ps_model.specs.Shift.{binomial}
 use Rattle.parts.specs.declared.rings.Ring.{Ring}
 use Rattle.parts.specs.JobRows.{IsPermitted}
+use Rattle.parts.proofs.Counted.{count-one}
 use Rattle.stages.specs.Lines.{AreFresh, HaveRoom, AllHave, AreKept, AllReach, NoneExceeds}
 use Rattle.stages.specs.States.{StageState, prepared_of}
 
--- the monomials of one variable
-binomial-none : (n : ℕ) → binomial n 0 ≡ 1
-binomial-none zero = refl
-binomial-none (suc n) = refl
-
-binomial-one : (n : ℕ) → binomial n 1 ≡ n
-binomial-one zero = refl
-binomial-one (suc n) = omega (arith, binomial-one n, binomial-none n)
-
-pub permitted_one : (n D : ℕ) → n ≡ 1 → D ≤ 4095 → IsPermitted n D
-permitted_one n D is low = subst (λ k. IsPermitted k D) (sym is) (low, (let one = binomial-one (1 + D) in omega arith))
+-- in one variable of weight 1 each degree may be asked for
+pub permitted_one : (job : JobData) (D : ℕ) → job.n ≡ 1 → job.weights ≡ replicate 8 1 → D ≤ 4095
+    → IsPermitted (take job.n job.weights) D
+permitted_one job D one ones low = subst (λ ws. IsPermitted ws D) (λ i. take (sym one i) (sym ones i))
+    (low, omega (arith, count-one D))
 
 -- lists of numbers that have one value, or none above
 module _ {T : Type 0} (f : T → ℕ) (n : ℕ) where

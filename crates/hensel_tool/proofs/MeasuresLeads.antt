@@ -25,6 +25,7 @@ use Rattle.hensel_tool.specs.PlainValue.{number_in, coefficient_of, main_power, 
 use Rattle.hensel_tool.specs.Measures.{greatest_main_power, variable_at, coefficient_at, plain_lead}
 use Rattle.hensel_tool.proofs.MeasuresTrees.{as_factor, term_degree, sum_degree}
 use Rattle.hensel_tool.proofs.Signs.{signed_residue, one_term}
+use Rattle.hensel_tool.specs.Plain.{plain_ring}
 
 -- no variable, and this number modulo m
 pub record IsKnown (m powers number l : ℕ) : Type 0 where
@@ -233,16 +234,16 @@ IsLeadOf m ts l =
     let d = greatest_main_power ts in IsKnown m (variable_at d ts) (coefficient_at m d ts) l
 
 -- the leading number by the terms alone, in the ring modulo m
-pub lead_known : (m : ℕ) (ts : List PlainTerm) (l : ℕ) → HasLead (series_ring m) (plain_tree ts) l
+pub lead_known : (m : ℕ) (ts : List PlainTerm) (l : ℕ) → HasLead (plain_ring m) (plain_tree ts) l
     → IsLeadOf (max 2 m) ts l
 unfolding series_ring
-lead_known m ts l h = plain_known (series_ring m) ts l h
+lead_known m ts l h = plain_known (plain_ring m) ts l h
 
 pub known_lead : (m : ℕ) (ts : List PlainTerm) (l : ℕ)
     → IsLeadOf (max 2 m) ts l
-    → HasLead (series_ring m) (plain_tree ts) l
+    → HasLead (plain_ring m) (plain_tree ts) l
 unfolding series_ring
-known_lead m ts l h = known_plain (series_ring m) ts l h
+known_lead m ts l h = known_plain (plain_ring m) ts l h
 
 to_some : (m powers number l : ℕ) → IsKnown m powers number l
     → (if powers == 0 then Some (number % m) else None) ≡ Some l
@@ -259,7 +260,7 @@ from_some m (suc powers) number l h = absurd (none (suc powers) (omega arith) h)
 
 -- what has a leading number, and which
 pub lead : (m : ℕ) (ts : List PlainTerm) (l : ℕ)
-    → HasLead (series_ring m) (plain_tree ts) l ↔ (plain_lead (max 2 m) ts ≡ Some l)
+    → HasLead (plain_ring m) (plain_tree ts) l ↔ (plain_lead (max 2 m) ts ≡ Some l)
 lead m ts l = (
   λ h. to_some (max 2 m) _ _ l (lead_known m ts l h),
   λ h. known_lead m ts l (from_some (max 2 m) _ _ l h),

@@ -5,13 +5,13 @@ use Rattle.std.proofs.Math.Nat.{mod-eq_of_lt, add-mod-mod, mod-add-mod}
 use Rattle.std.proofs.lemmas.Bool.Decides.{nat_tests}
 use Rattle.std.proofs.lemmas.List.{at_drop_all}
 use Rattle.ps_model.specs.Value.{HasLead}
-use Rattle.ps_model.specs.Job.{series_ring}
 use Rattle.hensel_tool.specs.declared.script.PlainTerm.{PlainTerm}
 use Rattle.hensel_tool.specs.Plain.{plain_tree, variable_power}
 use Rattle.hensel_tool.specs.PlainValue.{main_power, signed_coefficient}
 use Rattle.hensel_tool.specs.Measures.{greatest_main_power, variable_at, coefficient_at}
 use Rattle.hensel_tool.proofs.MeasuresLeads.{lead_known, known_lead}
 use Rattle.hensel_tool.proofs.MeasuresSteps.{next}
+use Rattle.hensel_tool.specs.Plain.{plain_ring}
 
 taken : (n d v : ℕ) → n ≡ d → (if n == d then v else 0) ≡ v
 taken n d v h = grind (arith, nat_tests)
@@ -56,7 +56,7 @@ module _ (d : ℕ) (ts : List PlainTerm) where
 
     -- the variable in a term of the formal degree
     pub unknown : (m l : ℕ) → d ≡ greatest_main_power ts → main_power t.factors ≡ d → variable_power t.factors ≢ 0
-        → variable_at d ts ≡ variable_at d (drop i ts) → HasLead (series_ring m) (plain_tree ts) l → ⊥
+        → variable_at d ts ≡ variable_at d (drop i ts) → HasLead (plain_ring m) (plain_tree ts) l → ⊥
     unknown m l top at some left lead =
         let none : variable_at d ts ≡ 0 = ap (λ n. variable_at n ts) top ∙ (lead_known m ts l lead).constant in
         some (omega (arith, counted_variable at))
@@ -74,7 +74,7 @@ module _ (d : ℕ) (ts : List PlainTerm) where
     number : coefficient_at m d ts % m ≡ coefficient_at (max 2 m) (greatest_main_power ts) ts % max 2 m
     number = λ j. coefficient_at (same_modulus j) (top j) ts % same_modulus j
 
-    pub monic : (a == 1) ≡ true → HasLead (series_ring m) (plain_tree ts) 1
+    pub monic : (a == 1) ≡ true → HasLead (plain_ring m) (plain_tree ts) 1
     monic test = known_lead m ts 1 (record {
       constant = ap (λ n. variable_at n ts) (sym top) ∙ constant ∙ at_drop_all (variable_at d) ts i h;
       value = sym (told a test) ∙ value ∙ number;
@@ -83,5 +83,5 @@ module _ (d : ℕ) (ts : List PlainTerm) where
         told : (n : ℕ) → (n == 1) ≡ true → n ≡ 1
         told n h = grind (arith, nat_tests)
 
-    pub of_monic : HasLead (series_ring m) (plain_tree ts) 1 → (a == 1) ≡ true
+    pub of_monic : HasLead (plain_ring m) (plain_tree ts) 1 → (a == 1) ≡ true
     of_monic lead = eq-eqb a 1 (value ∙ number ∙ sym (lead_known m ts 1 lead).value)

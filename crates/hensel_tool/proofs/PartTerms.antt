@@ -58,16 +58,16 @@ module _ (job : JobData) (i j r D : ℕ) (p : PartValue) (is : IsFactorPart job 
   abbrev R : PolynomialRing
   R = ring_of (job_ring job)
 
-  slice_is : polynomial_modulo job.modulus p.map ≡ slice_at R r j (factor_of job i fs)
+  slice_is : polynomial_modulo job.modulus job.weights p.map ≡ slice_at R r j (factor_of job i fs)
   slice_is = is.slices (each_truncated r fs) (factors_truncated job r D le fs are)
       ∙ ap (slice_at R r j) (get_or-truncated R r i fs) ∙ slice_at-truncated R r r j _ (omega arith)
 
 -- the texts of the terms of one degree
-at_modulus : (m j r : ℕ) (names : List (List ℕ)) (f : Poly (series_ring m)) (map : FinMap (key_compare 8) ℕ)
-    → polynomial_modulo m map ≡ slice r j f → AreResidues (max 2 m) (entries map)
-    → texts_of names (terms_of_degree (series_ring m) f j r) ≡ texts_of names (entries map)
+at_modulus : (m : ℕ) (ws : List ℕ) (j r : ℕ) (names : List (List ℕ)) (f : Poly (series_ring m ws)) (map : FinMap (key_compare 8) ℕ)
+    → polynomial_modulo m ws map ≡ slice r j f → AreResidues (max 2 m) (entries map)
+    → texts_of names (terms_of_degree (series_ring m ws) f j r) ≡ texts_of names (entries map)
 unfolding series_ring polynomial_modulo
-at_modulus m j r names f map is residues = texts_of_slice (series_ring m) names j r f map is residues
+at_modulus m ws j r names f map is residues = texts_of_slice (series_ring m ws) names j r f map is residues
 
 -- the texts of a factor's terms of one degree are those of the part's terms
 pub texts_of_part : (job : JobData) (i j r D : ℕ) (names : List (List ℕ)) (ring : Ring) (p : PartValue)
@@ -76,7 +76,7 @@ pub texts_of_part : (job : JobData) (i j r D : ℕ) (names : List (List ℕ)) (r
     → texts_of names (terms_of_degree (job_ring job) (factor_of job i fs) j r)
     ≡ texts_of names (map entry_of ts)
 texts_of_part job i j r D names ring p ts of is same order le fs are =
-    at_modulus job.modulus j r names (factor_of job i fs) p.map (slice_is job i j r D p is le fs are)
+    at_modulus job.modulus job.weights j r names (factor_of job i fs) p.map (slice_is job i j r D p is le fs are)
     (subst (AreResidues (max 2 job.modulus)) same
     (residues_of (modulus_of ring) (max 2 job.modulus) (weights_of ring) p.degree ts
     (greater (modulus_of ring) job.modulus of.0) order.1

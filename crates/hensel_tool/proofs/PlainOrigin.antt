@@ -8,7 +8,7 @@ use Rattle.ps_model.specs.declared.job.Root.{Root}
 use Rattle.ps_model.specs.Keys.{y_key}
 use Rattle.ps_model.specs.Notation.{coefficient}
 use Rattle.ps_model.specs.SeriesRing.{ring}
-use Rattle.ps_model.specs.Job.{series_ring, AreAtOrigin, DifferAt}
+use Rattle.ps_model.specs.Job.{AreAtOrigin, DifferAt}
 use Rattle.hensel_tool.specs.declared.script.PlainTerm.{PlainTerm}
 use Rattle.hensel_tool.specs.declared.script.PlainRoot.{PlainRoot}
 use Rattle.hensel_tool.specs.Plain.{Plain, IsPlain, IsSmall, plain_job, root_of}
@@ -17,6 +17,7 @@ use Rattle.hensel_tool.specs.Measures.{greatest_main_power}
 use Rattle.hensel_tool.specs.Origin.{input_at, roots_at}
 use Rattle.hensel_tool.proofs.MeasuresTrees.{plain_degree}
 use Rattle.hensel_tool.proofs.PlainMeaning.{AreTerms, written_terms, plain_is_value, plain_only_value}
+use Rattle.hensel_tool.specs.Plain.{plain_ring}
 
 -- the terms of a script of the form
 pub plain_terms : (input : List ℕ) (s : Plain) → IsPlain input s → AreTerms s.terms
@@ -54,12 +55,12 @@ module _ (s : Plain) (terms : AreTerms s.terms) where
   pub at_origin : (p : ℕ) → AreAtOrigin (plain_job s) p (input_at s.modulus s.terms p)
       (roots_at s.modulus (plain_job s).roots p)
   unfolding input_at roots_at
-  at_origin p = (_, plain_is_value (series_ring s.modulus) 0 s.terms terms, refl, refl)
+  at_origin p = (_, plain_is_value (plain_ring s.modulus) 0 s.terms terms, refl, refl)
 
   pub agree_at : (p : ℕ) → input_at s.modulus s.terms p ≡ roots_at s.modulus (plain_job s).roots p
       → DifferAt (plain_job s) p → ⊥
   unfolding input_at roots_at
   agree_at p same (input, roots, (v, is, at, at'), ne) = ne (at
-      ∙ ap (λ q. coefficient {R = ring (series_ring s.modulus)} q (y_key (series_ring s.modulus).variables p))
-      (plain_only_value (series_ring s.modulus) 0 s.terms terms v is)
+      ∙ ap (λ q. coefficient {R = ring (plain_ring s.modulus)} q (y_key (plain_ring s.modulus).variables p))
+      (plain_only_value (plain_ring s.modulus) 0 s.terms terms v is)
       ∙ same ∙ sym at')

@@ -1,7 +1,5 @@
 -- What an input's answer is, from what was read and found.
 use Rattle.std.proofs.Common.{◌≡◌, ℕ, ◌+◌, ◌≤◌, Bool, true, false, List, sym, ◌∙◌, subst, arith}
-use Rattle.std.proofs.Common.{Result, Ok, Err}
-use Rattle.std.specs.Result.{OnErr}
 use Rattle.ps_model.specs.Job.{IsValidJob}
 use Rattle.std.specs.Prelude.{IsTrue, ◌↔◌}
 use Rattle.hensel_tool.specs.declared.script.PlainTerm.{PlainTerm}
@@ -59,8 +57,3 @@ no_steps tally = omega arith
 pub refused_reply : (input text : List ℕ) (status tally : ℕ) → IsOutput factor_words input text status 0
     → IsReply input text status tally tally
 refused_reply input text status tally output = record { steps = 0; output = output; spends = no_steps tally }
-
--- what holds anyhow holds of an error
-pub on_err : {T E : Type 0} (r : Result T E) (P : Type 0) → P → OnErr r P
-on_err (Ok x) P p = tt
-on_err (Err e) P p = p

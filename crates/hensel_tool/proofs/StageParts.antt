@@ -19,12 +19,12 @@ use Rattle.stages.specs.Titles.{times_at}
 use Rattle.hensel_tool.specs.FactorParts.{IsFactorPart}
 
 -- the map of a row of parts at a place
-part_of-maps : (m : ℕ) (row : List PartValue) (j : ℕ) → j < length row
-    → part_of (ring_of (series_ring m)) (maps_modulo m row) j ≡ polynomial_modulo m (part_in row j).map
+part_of-maps : (m : ℕ) (ws : List ℕ) (row : List PartValue) (j : ℕ) → j < length row
+    → part_of (ring_of (series_ring m ws)) (maps_modulo m ws row) j ≡ polynomial_modulo m ws (part_in row j).map
 unfolding series_ring polynomial_modulo maps_modulo
-part_of-maps m [] j lt = absurd (omega arith)
-part_of-maps m (p ∷ row) zero lt = refl
-part_of-maps m (p ∷ row) (suc j) lt = part_of-maps m row j (omega arith)
+part_of-maps m ws [] j lt = absurd (omega arith)
+part_of-maps m ws (p ∷ row) zero lt = refl
+part_of-maps m ws (p ∷ row) (suc j) lt = part_of-maps m ws row j (omega arith)
 
 module _ (job : JobData) (ring : Ring) (is_ring : IsRingOf ring job) (i r : ℕ) (row : List (Arc PartValue Global))
     (are : AreSlices job (times_at job i) r (factor_at job i) (parts_of row)) where
@@ -47,5 +47,5 @@ module _ (job : JobData) (ring : Ring) (is_ring : IsRingOf ring job) (i r : ℕ)
     factor_part = subst (IsFactorPart job i j r) at (record {
       degree = (are.parts ring is_ring).degrees j nothing here;
       parts = λ other also. (are.parts other also).parts j nothing here;
-      slices = λ fs at. sym (part_of-maps job.modulus (parts_of row) j here) ∙ (are.slices fs at).slices j low;
+      slices = λ fs at. sym (part_of-maps job.modulus job.weights (parts_of row) j here) ∙ (are.slices fs at).slices j low;
     })

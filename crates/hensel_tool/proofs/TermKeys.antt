@@ -7,12 +7,11 @@ use Rattle.std.specs.Ordering.{eq_by_cmp}
 use Rattle.std.proofs.Math.Nat.{mod-mod}
 use Rattle.std.proofs.lemmas.Bool.Decides.{eqb_tells}
 use Rattle.std.proofs.lemmas.List.Sums.{sum_by-cons}
-use Rattle.ps_model.specs.Keys.{Key, Powers, powers_of, no_powers, add_powers, weighted, ArePositive}
-use Rattle.ps_model.specs.KeyLaws.{add_powers-comm, no_powers-add}
+use Rattle.ps_model.specs.Keys.{Key, Powers, powers_of, no_powers, add_powers, weights_from, weighted}
+use Rattle.ps_model.specs.KeyLaws.{weights_from-positive, add_powers-comm, no_powers-add}
 use Rattle.ps_model.specs.Bounds.{IsSlice}
 use Rattle.ps_model.specs.Ring.{Ring}
 use Rattle.ps_model.specs.Sums.{total}
-use Rattle.ps_model.specs.Job.{ones}
 use Rattle.ps_model.specs.SeriesRing.{SeriesRing, ring, degree, Poly}
 use Rattle.ps_model.specs.Polynomial.{polynomial, coefficient}
 use Rattle.ps_model.specs.Slices.{slice_at}
@@ -30,23 +29,23 @@ weighted-nothing : (n : ℕ) (w : Powers n) → weighted n w (powers_of n []) �
 weighted-nothing zero w = refl
 weighted-nothing (suc n) w = omega (arith, weighted-nothing n w.1)
 
-module _ (n m : ℕ) (two : 2 ≤ m) (positive : ArePositive (suc n) (ones (suc n))) where
-  -- the polynomials in Y and n + 1 variables
-  abbrev pub ones_ring : SeriesRing
-  ones_ring = record {
+module _ (n m : ℕ) (two : 2 ≤ m) (ws : List ℕ) where
+  -- the polynomials in Y and n + 1 variables, of which the first has weight 1
+  abbrev pub first_ring : SeriesRing
+  first_ring = record {
     variables = suc n;
-    weights = ones (suc n);
-    positive = positive;
+    weights = weights_from (suc n) (1 ∷ ws);
+    positive = weights_from-positive (suc n) (1 ∷ ws);
     modulus = m;
     at_least_two = two;
   }
 
   abbrev R : Ring
-  R = ring ones_ring
+  R = ring first_ring
 
   -- the degree of such a key is the power of the variable
-  degree-term_key : (r j : ℕ) → degree ones_ring (term_key (suc n) r j) ≡ r
-  degree-term_key r j = omega (arith, weighted-nothing n (ones n))
+  degree-term_key : (r j : ℕ) → degree first_ring (term_key (suc n) r j) ≡ r
+  degree-term_key r j = omega (arith, weighted-nothing n (weights_from n ws))
 
   -- two such keys are equal exactly where their powers are
   same_keys : (r j p i : ℕ) → eq_by_cmp R.compare (term_key (suc n) r j) (term_key (suc n) p i) ≡ (p == r) && (i == j)
@@ -78,7 +77,7 @@ module _ (n m : ℕ) (two : 2 ≤ m) (positive : ArePositive (suc n) (ones (suc 
 
   -- the coefficient of the sum of the terms
   coefficient_total : (ts : List PlainTerm) (r j : ℕ)
-      → total (at_key R (term_key (suc n) r j)) (map (term_entry ones_ring) ts) ≡ coefficient_sum m ts r j
+      → total (at_key R (term_key (suc n) r j)) (map (term_entry first_ring) ts) ≡ coefficient_sum m ts r j
   coefficient_total [] r j = refl
   coefficient_total (t ∷ ts) r j =
       (λ i. signed_coefficient m t * cond (same_keys r j (variable_power t.factors) (main_power t.factors) i) 1 0
@@ -91,13 +90,13 @@ module _ (n m : ℕ) (two : 2 ≤ m) (positive : ArePositive (suc n) (ones (suc 
       chosen false c = omega arith
 
   -- no other key occurs
-  among : (ts : List PlainTerm) (x : Key (suc n)) → (total (at_key R x) (map (term_entry ones_ring) ts) ≡ 0)
+  among : (ts : List PlainTerm) (x : Key (suc n)) → (total (at_key R x) (map (term_entry first_ring) ts) ≡ 0)
       ⊎ ((r : ℕ) × (j : ℕ) × (x ≡ term_key (suc n) r j))
   among [] x = inl refl
   among (t ∷ ts) x =
       elim (eq_by_cmp R.compare x (term_key (suc n) (variable_power t.factors) (main_power t.factors))) as
       (λ b. eq_by_cmp R.compare x (term_key (suc n) (variable_power t.factors) (main_power t.factors)) ≡ b
-      → (signed_coefficient m t * cond b 1 0 + total (at_key R x) (map (term_entry ones_ring) ts) ≡ 0)
+      → (signed_coefficient m t * cond b 1 0 + total (at_key R x) (map (term_entry first_ring) ts) ≡ 0)
       ⊎ ((r : ℕ) × (j : ℕ) × (x ≡ term_key (suc n) r j))) [
         | true ↦ λ is. inr (
           variable_power t.factors,
@@ -124,7 +123,7 @@ module _ (n m : ℕ) (two : 2 ≤ m) (positive : ArePositive (suc n) (ones (suc 
   lone_key : (x : Key (suc n)) (r j p i : ℕ) → R.degree x ≡ r → x.y ≡ 0 → R.◌⊕◌ x (R.y j) ≡ term_key (suc n) p i
       → x ≡ term_key (suc n) r 0
   lone_key x r j p i hd hy is = at_power ∙ ap (λ q. term_key (suc n) q 0)
-      (sym (degree-term_key p 0) ∙ sym (ap (degree ones_ring) at_power) ∙ hd)
+      (sym (degree-term_key p 0) ∙ sym (ap (degree first_ring) at_power) ∙ hd)
     where
       at_power : x ≡ term_key (suc n) p 0
       at_power = λ l. record {
@@ -136,10 +135,10 @@ module _ (n m : ℕ) (two : 2 ≤ m) (positive : ArePositive (suc n) (ones (suc 
     -- at a key without Y the multiple of the power has the coefficient that the terms have with Y^j
     coefficient_here : (x : Key (suc n)) → R.degree x ≡ r → R.y_degree x ≡ 0
         → coefficient R (polynomial R ((term_key (suc n) r 0, c) ∷ [])) x
-        ≡ coefficient R (plain_polynomial ones_ring ts) (R.◌⊕◌ x (R.y j))
+        ≡ coefficient R (plain_polynomial first_ring ts) (R.◌⊕◌ x (R.y j))
     coefficient_here x hd hy = coefficient-polynomial R ((term_key (suc n) r 0, c) ∷ []) x
         ∙ by_key (eq_by_cmp R.compare x (term_key (suc n) r 0)) refl
-        ∙ sym (coefficient-polynomial R (map (term_entry ones_ring) ts) (R.◌⊕◌ x (R.y j)))
+        ∙ sym (coefficient-polynomial R (map (term_entry first_ring) ts) (R.◌⊕◌ x (R.y j)))
       where
         once : (n : ℕ) → n * 1 + 0 ≡ n
         once n = omega arith
@@ -149,12 +148,12 @@ module _ (n m : ℕ) (two : 2 ≤ m) (positive : ArePositive (suc n) (ones (suc 
 
         by_key : (b : Bool) → eq_by_cmp R.compare x (term_key (suc n) r 0) ≡ b
             → (c * cond (eq_by_cmp R.compare x (term_key (suc n) r 0)) 1 0 + 0) % m
-            ≡ total (at_key R (R.◌⊕◌ x (R.y j))) (map (term_entry ones_ring) ts) % m
+            ≡ total (at_key R (R.◌⊕◌ x (R.y j))) (map (term_entry first_ring) ts) % m
         by_key true same =
             let key : x ≡ term_key (suc n) r 0 = tie R.compare R.total_order R.antisymmetric _ _ same in
             (λ l. (c * cond (same l) 1 0 + 0) % m) ∙ ap (λ n. n % m) (once c ∙ is) ∙ mod-mod _ m
             ∙ ap (λ n. n % m) (sym (coefficient_total ts r j)
-            ∙ ap (λ k. total (at_key R k) (map (term_entry ones_ring) ts))
+            ∙ ap (λ k. total (at_key R k) (map (term_entry first_ring) ts))
             (sym (ap (λ k. R.◌⊕◌ k (R.y j)) key ∙ raised_key r j)))
         by_key false differ = (λ l. (c * cond (differ l) 1 0 + 0) % m)
             ∙ ap (λ n. n % m) (never c ∙ sym (elim (among ts (R.◌⊕◌ x (R.y j))) [
@@ -170,9 +169,9 @@ module _ (n m : ℕ) (two : 2 ≤ m) (positive : ArePositive (suc n) (ones (suc 
                 ∙ itself R.compare R.total_order R.antisymmetric (term_key (suc n) r 0))
 
     -- the slice of the terms is that multiple
-    pub terms_slice : (q : Poly ones_ring) → IsSlice r q → q ≡ polynomial R ((term_key (suc n) r 0, c) ∷ [])
-        → q ≡ slice_at R r j (truncated R R.degree r (plain_polynomial ones_ring ts))
+    pub terms_slice : (q : Poly first_ring) → IsSlice r q → q ≡ polynomial R ((term_key (suc n) r 0, c) ∷ [])
+        → q ≡ slice_at R r j (truncated R R.degree r (plain_polynomial first_ring ts))
     terms_slice q slice at = same_slice R r q _ slice (slice_at-IsSlice R r j _)
         (λ x hd hy. ap (λ t. coefficient R t x) at ∙ coefficient_here x hd hy
-        ∙ sym (coefficient-slice R r j (plain_polynomial ones_ring ts) x hd hy))
-        ∙ sym (slice_at-truncated R r r j (plain_polynomial ones_ring ts) (omega arith))
+        ∙ sym (coefficient-slice R r j (plain_polynomial first_ring ts) x hd hy))
+        ∙ sym (slice_at-truncated R r r j (plain_polynomial first_ring ts) (omega arith))

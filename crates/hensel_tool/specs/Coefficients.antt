@@ -9,12 +9,12 @@
 --     power_key r      the key of the power r of the first variable
 --     cell_terms r c      c times that power as a list of terms; none where c is 0
 --     cell_part r c      the part of degree r with these terms
---     IsJobOfTerms job ts      the job has one variable, and its polynomial is the sum of the terms, of
+--     IsJobOfTerms job ts      the job has one variable, all its weights are 1, and its polynomial is the sum of the terms, of
 --         which there is one at least; none is an empty product
 --     IsTableOf job ring K D cells      the polynomial of the job has the formal degree K; cells are the
 --         table of its terms up to the power D of the variable, and from that power on all sums are 0
 use Rattle.std.specs.Prelude.{◌≡◌, ◌≢◌, ℕ, ◌+◌, ◌*◌, ◌%◌, ◌≤◌, ◌==◌, ◌&&◌, max, Bool, if◌then◌else◌}
-use Rattle.std.specs.Prelude.{List, [], ◌∷◌, length, sum_by, slice_index}
+use Rattle.std.specs.Prelude.{List, [], ◌∷◌, length, replicate, sum_by, slice_index}
 use Rattle.std.specs.FinMap.{from_entries}
 use Rattle.std.specs.List.{All}
 use Rattle.ps_model.specs.declared.job.JobData.{JobData}
@@ -55,6 +55,7 @@ cell_part r c = record { degree = r; map = from_entries (cell_terms r c) }
 
 pub record IsJobOfTerms (job : JobData) (ts : List PlainTerm) : Type 0 where
   pub variables : job.n ≡ 1
+  pub weights : job.weights ≡ replicate 8 1
   pub tree : job.expr ≡ plain_tree ts
   pub some : ts ≢ []
   pub filled : All (λ (t : PlainTerm). t.factors ≢ []) ts

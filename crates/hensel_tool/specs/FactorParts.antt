@@ -19,4 +19,4 @@ pub record IsFactorPart (job : JobData) (i j r : ℕ) (p : PartValue) : Type 0 w
   pub degree : p.degree ≡ r
   pub parts : (ring : Ring) → IsRingOf ring job → IsPartOf ring p
   pub slices : (fs : List (Poly (job_ring job))) → IsFactors job r fs
-      → polynomial_modulo job.modulus p.map ≡ slice_at r j (factor_of job i fs)
+      → polynomial_modulo job.modulus job.weights p.map ≡ slice_at r j (factor_of job i fs)

@@ -18,12 +18,12 @@ use Rattle.ps_model.specs.Keys.{y_key}
 use Rattle.ps_model.specs.Notation.{coefficient, truncated}
 use Rattle.ps_model.specs.SeriesRing.{Poly}
 use Rattle.ps_model.specs.Factors.{root_powers}
-use Rattle.ps_model.specs.Job.{series_ring}
 use Rattle.hensel_tool.specs.declared.script.PlainFactor.{PlainFactor}
 use Rattle.hensel_tool.specs.declared.script.PlainTerm.{PlainTerm}
 use Rattle.hensel_tool.specs.declared.origin.Difference.{Difference}
 use Rattle.hensel_tool.specs.Plain.{variable_power}
 use Rattle.hensel_tool.specs.PlainValue.{main_power, plain_polynomial, signed_coefficient}
+use Rattle.hensel_tool.specs.Plain.{plain_ring}
 
 abbrev pub is_at_power : List PlainFactor → ℕ → Bool
 is_at_power fs p = (variable_power fs == 0) && (main_power fs == p)
@@ -33,17 +33,17 @@ origin_share m p t = if is_at_power t.factors p then signed_coefficient m t else
 
 unfoldable pub input_at : ℕ → List PlainTerm → ℕ → ℕ
 input_at m terms p =
-    let S = series_ring m in
+    let S = plain_ring m in
     coefficient (truncated 0 (plain_polynomial S terms)) (y_key S.variables p)
 
 unfoldable pub roots_at : ℕ → List Root → ℕ → ℕ
 roots_at m roots p =
-    let S = series_ring m in
+    let S = plain_ring m in
     let expected : Poly S = root_powers roots in
     coefficient expected (y_key S.variables p)
 
-abbrev pub AreCoefficients : (m : ℕ) → List ℕ → Poly (series_ring m) → Type 0
-AreCoefficients m row q = (p : ℕ) → slice_index row p ≡ coefficient q (y_key (series_ring m).variables p)
+abbrev pub AreCoefficients : (m : ℕ) → List ℕ → Poly (plain_ring m) → Type 0
+AreCoefficients m row q = (p : ℕ) → slice_index row p ≡ coefficient q (y_key (plain_ring m).variables p)
 
 pub record DiffersFirst (m : ℕ) (terms : List PlainTerm) (roots : List Root) (d : Difference) : Type 0 where
   pub input : d.input ≡ input_at m terms d.power

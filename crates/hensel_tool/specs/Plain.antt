@@ -5,6 +5,7 @@
 --     factor_tree f, term_tree fs, plain_tree ts      the trees of a factor, of a product of them,
 --         and of the terms: a term alone without a minus is itself, and all else is a sum
 --     root_of m r      the root as a residue modulo m, with its multiplicity
+--     plain_ring m      the ring of the script's job: each variable has weight 1
 --     plain_job s      the script's job: its tree and its roots
 --     joined lines      each line and the newline behind it; nothing of none
 --     joined_by mark texts      the texts with the mark between them
@@ -20,13 +21,15 @@
 --         and the nodes are at most 4096
 --     IsPlain input s      the input is a script of the plain form and says s: both
 use Rattle.std.specs.Prelude.{◌≡◌, ◌≢◌, ℕ, ◌-◌, ◌%◌, ◌^◌, ◌<◌, ◌≤◌, true, false, List, [], ◌∷◌, ◌++◌, length, codes}
-use Rattle.std.specs.Prelude.{sum_by, map, if◌then◌else◌}
+use Rattle.std.specs.Prelude.{sum_by, map, replicate, if◌then◌else◌}
 use Rattle.std.specs.Prelude.{Option, Some, None}
 use Rattle.std.specs.List.{flat_map, All}
 use Rattle.ps_model.specs.declared.expr.Expr.{Expr, Number, Name, MainVariable, Sum, Product, Power}
 use Rattle.ps_model.specs.declared.expr.Summand.{Summand}
 use Rattle.ps_model.specs.declared.job.JobData.{JobData}
 use Rattle.ps_model.specs.declared.job.Root.{Root}
+use Rattle.ps_model.specs.Job.{series_ring}
+use Rattle.ps_model.specs.SeriesRing.{SeriesRing}
 use Rattle.ps_model.specs.Tree.{formal_degree, node_count}
 use Rattle.hensel_tool.specs.declared.script.PlainFactor.{PlainFactor}
 use Rattle.hensel_tool.specs.declared.script.PlainFactor.TheVariants as factor
@@ -62,10 +65,14 @@ plain_tree ts = Sum (map summand_of ts)
 abbrev pub root_of : ℕ → PlainRoot → Root
 root_of m r = record { value = (if r.minus then (m - r.number % m) % m else r.number % m); times = r.times }
 
+abbrev pub plain_ring : ℕ → SeriesRing
+plain_ring m = series_ring m (replicate 8 1)
+
 abbrev pub plain_job : Plain → JobData
 plain_job s = record {
   modulus = s.modulus;
   n = 1;
+  weights = replicate 8 1;
   expr = plain_tree s.terms;
   roots = map (root_of s.modulus) s.roots;
 }

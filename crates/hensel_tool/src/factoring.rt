@@ -78,6 +78,7 @@ fn raised<I: RowSource>(
     requires accepted { IsAccepted (arc_value job.now) }
     requires ring { IsRingOf ring (arc_value job.now) }
     requires variable { (arc_value job.now).n ≡ 1 }
+    requires weights { (arc_value job.now).weights ≡ replicate 8 1 }
     requires source { I.job input.old ≡ arc_value job.now }
     requires low { to ≤ 4095 }
     requires room { tally.old ≤ 2 ^ 60 }
@@ -128,3 +129,6 @@ fn empty_rows(
     }
     Ok(rows)
 }
+
+#[cfg(test)]
+mod tests;

@@ -20,6 +20,7 @@ pub fn job_of(
     Ok(JobData {
         modulus: script.modulus,
         n: 1,
+        weights: [1; 8],
         expr: sum_of(alloc, script.terms.as_slice())?,
         roots,
     })

@@ -46,11 +46,17 @@ mod tests;
 use ports::{StdSink, StdSource};
 use prepare::Tally;
 pub use program::run;
+use ps_model::OutOfMemory;
+use status::OUT_OF_MEMORY;
 use std::env::{self, Env};
+use std::io::ErrorKind;
 use std::process::ExitCode;
+use words::words_after_name;
 
 fn main(rt: HostRuntime) -> ExitCode {
-    let words = given_words(&rt);
+    let Ok(words) = given_words(&rt) else {
+        return ExitCode::from(OUT_OF_MEMORY);
+    };
     let mut source = StdSource::new(rt.stdin());
     let mut sink = StdSink::new(rt.stdout());
     let mut tally = Tally::new();
@@ -66,15 +72,12 @@ fn main(rt: HostRuntime) -> ExitCode {
     ExitCode::from(status)
 }
 
-/// The words after the program's own name. Words that can't be had are none, which are refused.
-fn given_words<R: Env + AllocGlobal>(rt: &R) -> Vec<String> {
-    let mut words = Vec::new(rt.alloc());
-    if let Ok(all) = env::args(rt) {
-        for word in all.skip(1) {
-            if words.push(word).is_err() {
-                return Vec::new(rt.alloc());
-            }
-        }
+/// The words after the program's own name. Words that can't be had as text are none, which are
+/// refused.
+fn given_words<R: Env + AllocGlobal>(rt: &R) -> Result<Vec<String>, OutOfMemory> {
+    match env::args(rt) {
+        Ok(all) => words_after_name(rt.alloc(), all),
+        Err(error) if error.kind() == ErrorKind::OutOfMemory => Err(OutOfMemory),
+        Err(_) => Ok(Vec::new(rt.alloc())),
     }
-    words
 }

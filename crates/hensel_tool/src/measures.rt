@@ -2,7 +2,7 @@
 ghost use Rattle.std.specs.Prelude.{◌≡◌, ◌≤◌, ◌↔◌, ◌∷◌, [], IsTrue, SomeIff};
 ghost use Rattle.ps_model.specs.Tree.{formal_degree};
 ghost use Rattle.ps_model.specs.Value.{HasLead};
-ghost use Rattle.ps_model.specs.Job.{series_ring};
+ghost use Rattle.hensel_tool.specs.Plain.{plain_ring};
 ghost use Rattle.residue.specs.Residues.{number_of};
 ghost use Rattle.hensel_tool.specs.Plain.{plain_tree, IsSmall};
 ghost use Rattle.hensel_tool.specs.PlainValue.{power_of_main};
@@ -59,7 +59,7 @@ pub fn formal_degree(terms: &[PlainTerm]) -> u32
 /// Whether the leading number is known by the sum's form and is 1: no term of the formal degree
 /// has the variable, and the coefficients of these terms, with their signs, add to 1.
 pub fn is_monic(modulus: Modulus, terms: &[PlainTerm]) -> bool
-    ensures { IsTrue result ↔ HasLead (series_ring (number_of modulus)) (plain_tree terms.now) 1 }
+    ensures { IsTrue result ↔ HasLead (plain_ring (number_of modulus)) (plain_tree terms.now) 1 }
 {
     let degree = greatest_main_power(terms);
     let mut lead = 0;

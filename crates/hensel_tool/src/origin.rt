@@ -6,7 +6,7 @@ ghost use Rattle.std.specs.List.{All};
 ghost use Rattle.ps_model.specs.Factors.{root_power, total_times};
 ghost use Rattle.ps_model.specs.Notation.{product};
 ghost use Rattle.ps_model.specs.SeriesRing.{Poly};
-ghost use Rattle.ps_model.specs.Job.{series_ring};
+ghost use Rattle.hensel_tool.specs.Plain.{plain_ring};
 ghost use Rattle.residue.specs.Residues.{number_of, IsResidue};
 ghost use Rattle.hensel_tool.specs.PlainValue.{main_power};
 ghost use Rattle.hensel_tool.specs.Origin.{input_at, roots_at, AreCoefficients, IsFirstDifference};
@@ -100,7 +100,7 @@ fn times_root(
     requires residue { IsResidue modulus root.value }
     requires residues { (p : ℕ) → slice_index row.items p < number_of modulus }
     ensures length { IfOk result (λ next. vec_len next ≡ vec_len row + root.times) }
-    ensures numbers { IfOk result (λ next. (f : Poly (series_ring (number_of modulus)))
+    ensures numbers { IfOk result (λ next. (f : Poly (plain_ring (number_of modulus)))
         → AreCoefficients (number_of modulus) row.items f
         → AreCoefficients (number_of modulus) next.items (product (root_power root) f)) }
 {

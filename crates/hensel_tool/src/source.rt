@@ -1,11 +1,12 @@
 //! The polynomial of a plain script as a source of rows of homogeneous parts.
-ghost use Rattle.std.specs.Prelude.{◌≡◌, ◌≤◌, map, IfOk};
+ghost use Rattle.std.specs.Prelude.{◌≡◌, ◌≤◌, ◌<◌, map, replicate, IfOk};
 ghost use Rattle.std.specs.Arc.{arc_value};
 ghost use Rattle.std.specs.List.{All};
 ghost use Rattle.ps_model.specs.declared.job.JobData.{JobData as Job};
 ghost use Rattle.ps_model.specs.contracts.job.JobData.{the_row};
 ghost use Rattle.residue.specs.Residues.{number_of};
 ghost use Rattle.parts.specs.JobRows.{IsRingOf};
+ghost use Rattle.parts.specs.Rings.{modulus_of, variables_of, eight_weights};
 ghost use Rattle.parts.specs.RowsOfParts.{parts_of};
 ghost use Rattle.hensel_tool.specs.Plain.{IsSmall, variable_power as variable_power_of};
 ghost use Rattle.hensel_tool.specs.PlainValue.{main_power as main_power_of};
@@ -92,7 +93,10 @@ fn row_of_cells(
     r: u32,
     cells: &[u64],
 ) -> Result<Vec<Arc<Part>>, OutOfMemory>
-    requires { r ≤ 4095 }
+    requires degree { r ≤ 4095 }
+    requires variable { variables_of ring ≡ 1 }
+    requires weights { eight_weights ring ≡ replicate 8 1 }
+    requires residues { All (λ c. c < modulus_of ring) cells.now }
     ensures { IfOk result (λ row. parts_of row.items ≡ map (cell_part_of r) cells.now) }
 {
     let mut row = Vec::new(alloc);
@@ -105,7 +109,10 @@ fn row_of_cells(
 
 /// The cell times the power r of the variable.
 fn cell_part(alloc: Global, ring: Ring, r: u32, cell: u64) -> Result<Part, OutOfMemory>
-    requires { r ≤ 4095 }
+    requires degree { r ≤ 4095 }
+    requires variable { variables_of ring ≡ 1 }
+    requires weights { eight_weights ring ≡ replicate 8 1 }
+    requires residue { cell < modulus_of ring }
     ensures { IfOk result (λ part. part ≡ cell_part_of r cell) }
 {
     if cell == 0 {
@@ -118,7 +125,7 @@ fn cell_part(alloc: Global, ring: Ring, r: u32, cell: u64) -> Result<Part, OutOf
     };
     let mut terms = Vec::new(alloc);
     terms.push(term)?;
-    Ok(Part::of_terms(r, terms))
+    Ok(Part::of_terms(ring, r, terms))
 }
 
 /// The coefficients of the sum of the terms, in one pass: that of the power p of the variable and of

@@ -1,4 +1,6 @@
 //! Scripts with their texts, statuses and steps.
+mod sizes;
+
 use crate::run;
 use ports::{CalmSource, MemorySink, MemorySource, Source};
 use prepare::Tally;

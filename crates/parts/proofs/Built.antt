@@ -16,7 +16,8 @@ use Rattle.std.proofs.lemmas.Nat.{mul-mod_first}
 use Rattle.std.proofs.Math.Nat.{mod-lt}
 use Rattle.ps_model.specs.Keys.{Key, key_compare}
 use Rattle.ps_model.specs.KeyLaws.{key_compare_total, key_compare-IsAntisymmetric}
-use Rattle.ps_model.specs.Job.{ones, ones-positive}
+use Rattle.ps_model.specs.KeyLaws.{weights_from-positive}
+use Rattle.ps_model.specs.Keys.{weights_from}
 use Rattle.ps_model.specs.SeriesRing.{ring_of}
 use Rattle.ps_model.specs.Sums.{total}
 use Rattle.ps_model.specs.FiniteMaps.{collected}
@@ -154,9 +155,9 @@ module _ (ring : Ring) (d : ℕ) where
   pub total_is : (es : List (Key 8 × ℕ)) (ts : List Term) → IsTotal ring d es ts →
       from_entries {R = key_compare 8} (map entry_of ts) ≡ collected (key_compare 8) (modulus_of ring) es
   total_is es ts h = let two = ring.modulus.low in
-      is_collected (ring_of 8 (modulus_of ring) two (ones 8) (ones-positive 8)) (map entry_of ts) es
+      is_collected (ring_of 8 (modulus_of ring) two (weights_from 8 []) (weights_from-positive 8 [])) (map entry_of ts) es
       h.terms.order.0 (residues ts h.terms.order.1 h.terms.entries)
-      (λ q. h.totals (at_key (ring_of 8 (modulus_of ring) two (ones 8) (ones-positive 8)) q))
+      (λ q. h.totals (at_key (ring_of 8 (modulus_of ring) two (weights_from 8 []) (weights_from-positive 8 [])) q))
 
   pub terms_listed : (ts : List Term) → AreTermsOf ring d ts →
       entries (from_entries {R = key_compare 8} (map entry_of ts)) ≡ map entry_of ts

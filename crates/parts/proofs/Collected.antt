@@ -15,7 +15,8 @@ use Rattle.std.proofs.lemmas.List.Elements.{All-append, All-cons}
 use Rattle.ps_model.specs.Sums.{total, products}
 use Rattle.ps_model.specs.FiniteMaps.{collected}
 use Rattle.ps_model.specs.Keys.{Key, Powers, powers_of, numbers, add_powers, key_compare, add_keys}
-use Rattle.ps_model.specs.Job.{ones, ones-positive}
+use Rattle.ps_model.specs.KeyLaws.{weights_from-positive}
+use Rattle.ps_model.specs.Keys.{weights_from}
 use Rattle.ps_model.specs.SeriesRing.{ring_of}
 use Rattle.ps_model.proofs.Totals.{total-append}
 use Rattle.ps_model.proofs.Maps.{is_sorted-push}
@@ -112,7 +113,7 @@ module _ (m : ℕ) (key : ℕ → Option (Key 8)) where
       length cells ≤ n → ((g : Key 8 → ℕ) → cells_total (λ j. at_place g (key j)) 0 cells % m ≡ total g es % m) →
       from_entries {R = key_compare 8} (finished m key 0 cells) ≡ collected (key_compare 8) m es
   collected_from n two cells es falls below same =
-      is_collected (ring_of 8 m two (ones 8) (ones-positive 8)) (finished m key 0 cells) es
+      is_collected (ring_of 8 m two (weights_from 8 []) (weights_from-positive 8 [])) (finished m key 0 cells) es
       (sorted-finished n 0 cells falls (omega arith)) (residues-finished 0 cells (omega arith))
       (λ q. total-finished (at (key_compare 8) q) 0 cells ∙ same (at (key_compare 8) q))
 

@@ -20,7 +20,7 @@ size-cons : (d w : ℕ) (ws : List ℕ) → 0 < length ws → size d (w ∷ ws) 
 size-cons d w [] h = absurd (omega arith)
 size-cons d w (v ∷ ws) h = refl
 
-nothing_left : (ws : List ℕ) → length ws ≡ 0 → ws ≡ []
+pub nothing_left : (ws : List ℕ) → length ws ≡ 0 → ws ≡ []
 nothing_left [] e = refl
 nothing_left (w ∷ ws) e = absurd (omega arith)
 

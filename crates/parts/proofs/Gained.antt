@@ -24,6 +24,9 @@ use Rattle.parts.specs.declared.terms.Term.{Term}
 use Rattle.parts.specs.declared.cells.Placed.{Placed}
 use Rattle.parts.specs.PartValue.{IsEntryOf}
 use Rattle.parts.specs.AccumulatorValue.{with_product}
+use Rattle.parts.specs.Rings.{modulus_of, weights_of}
+use Rattle.parts.specs.TermLists.{AreTermsOf}
+use Rattle.parts.specs.declared.rings.Ring.{Ring}
 use Rattle.parts.proofs.Ordered.{ArePositive, weighs, dot-add}
 use Rattle.parts.proofs.Collected.{at_place, total-finished, residues-finished, sorted-finished, collected_from}
 use Rattle.parts.proofs.Collected.{falls, products_are, key_at-place, dot-padded, place-below-size, IsKeyOf-add}
@@ -272,3 +275,16 @@ gained_multiple m d c two ws old new us b some few positive fits_old fits_new ub
     keys_b : All (λ t. IsKeyOf ws d (key_from t.monomial.powers)) us
     keys_b = λ k t lt. (all_unmapped (IsEntryOf m ws d) entry_of us (subst (All (IsEntryOf m ws d)) (sym ub) all_b)
         k t lt).0
+
+pub cells_terms : (ring : Ring) (d : ℕ) (cells : List ℕ) (ts : List Term) → length (weights_of ring) ≤ 8 →
+    length cells ≤ size d (weights_of ring) →
+    map entry_of ts ≡ finished (modulus_of ring) (key_at d (weights_of ring)) 0 cells → AreTermsOf ring d ts
+cells_terms ring d cells ts few below held = record {
+  order = in_order (modulus_of ring) d (weights_of ring) cells ts some few below held;
+  entries = all_unmapped (IsEntryOf (modulus_of ring) (weights_of ring) d) entry_of ts
+      (subst (All (IsEntryOf (modulus_of ring) (weights_of ring) d)) (sym held)
+      (entries_of (modulus_of ring) d (weights_of ring) 0 cells some few));
+}
+  where
+    some : 0 < modulus_of ring
+    some = let two = ring.modulus.low in omega arith

@@ -6,7 +6,10 @@ pub mod Collected
 pub mod Gained
 pub mod Again
 pub mod Built
-pub mod Choices
+pub mod Steps
+pub mod Counted
+pub mod Listed
+pub mod Weights
 pub mod Singles
 pub mod Found
 pub mod Rows
@@ -14,3 +17,5 @@ pub mod Products
 pub mod Polynomials
 pub mod RowSlices
 pub mod RowsRead
+pub mod Counts
+pub mod Added

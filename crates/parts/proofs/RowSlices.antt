@@ -1,13 +1,16 @@
 -- A part of degree r is a slice, and a row of parts a row of slices.
 use Rattle.std.proofs.Common.{◌≡◌, ℕ, zero, suc, ◌+◌, ◌*◌, ◌<◌, ◌≤◌, Bool, true, false, cond, List, [], ◌∷◌, length}
-use Rattle.std.proofs.Common.{take, replicate, get_or, All, Some, refl, sym, ◌∙◌, ap, subst, arith}
+use Rattle.std.proofs.Common.{take, get_or, All, Some, refl, sym, ◌∙◌, ap, subst, arith}
 use Rattle.std.proofs.lemmas.List.{get_or-map, length-map, length-take-le}
+use Rattle.std.proofs.lemmas.List.Elements.{All-head, All-tail}
+use Rattle.std.specs.Prelude.{max}
 use Rattle.std.specs.FinMap.{entries, get-entries, find}
 use Rattle.std.specs.Ordering.{eq_by_cmp}
 use Rattle.ps_model.specs.Bounds.{IsSlice}
-use Rattle.ps_model.specs.Job.{series_ring, ones}
+use Rattle.ps_model.specs.Job.{series_ring}
 use Rattle.ps_model.specs.KeyLaws.{key_compare_total, key_compare-IsAntisymmetric}
-use Rattle.ps_model.specs.Keys.{Key, Powers, numbers, powers_of, weighted, key_compare}
+use Rattle.ps_model.specs.Keys.{Key, Powers, numbers, powers_of, weights_from, weighted}
+use Rattle.ps_model.specs.Keys.{key_compare}
 use Rattle.ps_model.specs.Notation.{of_map}
 use Rattle.ps_model.specs.Rows.{IsRow, AreRows}
 use Rattle.ps_model.specs.SeriesRing.{ring as ring_of}
@@ -15,7 +18,7 @@ use Rattle.ps_model.proofs.Coefficients.{tie}
 use Rattle.ps_model.proofs.SliceTerms.{slice_from_terms}
 use Rattle.parts.specs.PartValue.{PartValue, IsPartOf, IsEntryOf}
 use Rattle.parts.specs.Places.{dot}
-use Rattle.parts.specs.Rings.{modulus_of, weights_of}
+use Rattle.parts.specs.Rings.{modulus_of, weights_of, eight_weights}
 use Rattle.parts.specs.Terms.{IsKeyOf}
 use Rattle.parts.specs.declared.rings.Ring.{Ring}
 use Rattle.parts.specs.RowsOfParts.{IsRowOfParts, AreRowsOfParts}
@@ -36,25 +39,32 @@ found_all P q c (e ∷ es) is h = at (eq_by_cmp (key_compare 8) q e.0) refl is
         (subst (λ v. P (e.0, v)) value (h 0 e (omega arith)))
     at false same is later = later is
 
-weighted-none : (n : ℕ) → weighted n (ones n) (powers_of n []) ≡ 0
-weighted-none zero = refl
-weighted-none (suc n) = omega (arith, weighted-none n)
+weighted-none : (n : ℕ) (w : Powers n) → weighted n w (powers_of n []) ≡ 0
+weighted-none zero w = refl
+weighted-none (suc n) w = omega (arith, weighted-none n w.1)
+
+positive_kept : (w : ℕ) → 0 < w → max 1 w ≡ w
+positive_kept w some = omega arith
 
 -- the degree by the weights of fewer variables, where the others don't occur
-degree_is : (N m : ℕ) (x : Powers N) → m ≤ N → x ≡ powers_of N (take m (numbers N x))
-    → weighted N (ones N) x ≡ dot (take m (replicate N 1)) (numbers N x)
-degree_is zero zero x le is = refl
-degree_is zero (suc m) x le is = refl
-degree_is (suc n) zero x le is = ap (weighted (suc n) (ones (suc n))) is ∙ weighted-none (suc n)
-degree_is (suc n) (suc m) x le is =
-    ap (λ d. 1 * x.0 + d) (degree_is n m x.1 (omega arith) (ap (λ (z : Powers (suc n)). z.1) is))
+degree_is : (N m : ℕ) (ws : List ℕ) (x : Powers N) → All (λ w. 0 < w) ws → length ws ≡ N → m ≤ N
+    → x ≡ powers_of N (take m (numbers N x)) → weighted N (weights_from N ws) x ≡ dot (take m ws) (numbers N x)
+degree_is zero zero ws x some long le is = refl
+degree_is zero (suc m) [] x some long le is = refl
+degree_is zero (suc m) (w ∷ ws) x some long le is = absurd (omega arith)
+degree_is (suc n) zero ws x some long le is =
+    ap (weighted (suc n) (weights_from (suc n) ws)) is ∙ weighted-none (suc n) (weights_from (suc n) ws)
+degree_is (suc n) (suc m) [] x some long le is = absurd (omega arith)
+degree_is (suc n) (suc m) (w ∷ ws) x some long le is =
+    λ i. positive_kept w (All-head (λ w. 0 < w) w ws some) i * x.0
+    + degree_is n m ws x.1 (All-tail (λ w. 0 < w) w ws some) (omega arith) (omega arith)
+    (ap (λ (z : Powers (suc n)). z.1) is) i
 
 key_degree : (ring : Ring) (d : ℕ) (k : Key 8) → IsKeyOf (weights_of ring) d k
-    → (weighted 8 (ones 8) k.powers ≡ d) × (k.y ≡ 0)
+    → (weighted 8 (weights_from 8 (eight_weights ring)) k.powers ≡ d) × (k.y ≡ 0)
 key_degree ring d k is = (
-  degree_is 8 ring.n k.powers ring.few (ap (λ (x : Key 8). x.powers) is.is
-      ∙ ap (λ n. powers_of 8 (take n (numbers 8 k.powers))) long)
-      ∙ ap (λ ws. dot (take ring.n ws) (numbers 8 k.powers)) (sym ring.ones) ∙ is.weighs,
+  degree_is 8 ring.n ring.weights k.powers ring.positive ring.many ring.few (ap (λ (x : Key 8). x.powers) is.is
+      ∙ ap (λ n. powers_of 8 (take n (numbers 8 k.powers))) long) ∙ is.weighs,
   ap (λ (x : Key 8). x.y) is.is,
 )
   where

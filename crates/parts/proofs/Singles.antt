@@ -1,8 +1,9 @@
 -- Constants and variables, as lists of at most one term.
-use Rattle.std.proofs.Common.{◌≡◌, ℕ, zero, suc, ◌+◌, ◌*◌, ◌%◌, ◌<◌, ◌≤◌, List, [], ◌∷◌, length, take, replicate}
+use Rattle.std.proofs.Common.{◌≡◌, ℕ, zero, suc, ◌+◌, ◌*◌, ◌%◌, ◌<◌, ◌≤◌, List, [], ◌∷◌, length, take, replicate, ◌++◌, get_or}
 use Rattle.std.proofs.Common.{refl, sym, ◌∙◌, ap, subst, arith}
 use Rattle.std.specs.declared.cmp.Ordering.TheVariants.{Less}
 use Rattle.std.proofs.Math.ListN.{set}
+use Rattle.std.proofs.Math.Nat.{mod-lt}
 use Rattle.std.proofs.lemmas.List.{length-set}
 use Rattle.std.proofs.lemmas.Nat.{mul-mod_first}
 use Rattle.ps_model.specs.Keys.{Key, powers_of, numbers, key_compare}
@@ -16,7 +17,6 @@ use Rattle.parts.specs.Places.{dot}
 use Rattle.parts.specs.Terms.{key_of, entry_of, IsKeyOf}
 use Rattle.parts.specs.PartValue.{IsEntryOf}
 use Rattle.parts.specs.TermLists.{IsTotal, unless_zero}
-use Rattle.parts.proofs.Gained.{long_take}
 use Rattle.parts.proofs.Built.{built_none, built_push, built_whole}
 
 pub single : (ring : Ring) (d : ℕ) (t : Term) (k : Key 8) (c : ℕ) →
@@ -54,11 +54,11 @@ unit_take (suc k) zero i lt = absurd (omega arith)
 unit_take (suc k) (suc n) zero lt = λ j. (1, zero_take k n j)
 unit_take (suc k) (suc n) (suc i) lt = λ j. (0, unit_take k n i (omega arith) j)
 
-unit_weighs : (k n i : ℕ) → i < n → i < k → dot (take n (replicate k 1)) (set (replicate k 0) i 1) ≡ 1
-unit_weighs zero n i lt at = absurd (omega arith)
-unit_weighs (suc k) zero i lt at = absurd (omega arith)
-unit_weighs (suc k) (suc n) zero lt at = omega (arith, dot-zeros (take n (replicate k 1)) k)
-unit_weighs (suc k) (suc n) (suc i) lt at = omega (arith, unit_weighs k n i (omega arith) (omega arith))
+unit_weighs : (ws : List ℕ) (k i : ℕ) → i < length ws → i < k → dot ws (set (replicate k 0) i 1) ≡ get_or ws i 0
+unit_weighs [] k i lt at = absurd (omega arith)
+unit_weighs (w ∷ ws) zero i lt at = absurd (omega arith)
+unit_weighs (w ∷ ws) (suc k) zero lt at = omega (arith, dot-zeros ws k)
+unit_weighs (w ∷ ws) (suc k) (suc i) lt at = omega (arith, unit_weighs ws k i (omega arith) (omega arith))
 
 pub constant_key : (ws : List ℕ) → IsKeyOf ws 0 (key_from (replicate 8 0))
 constant_key ws = record {
@@ -66,13 +66,24 @@ constant_key ws = record {
   is = λ i. record { powers = zero_take 8 (length ws) i; y = 0 };
 }
 
-pub variable_key_is : (ws : List ℕ) (n i : ℕ) → ws ≡ take n (replicate 8 1) → n ≤ 8 → i < n →
-    IsKeyOf ws 1 (key_from (set (replicate 8 0) i 1))
-variable_key_is ws n i ones few lt = subst (λ l. IsKeyOf l 1 (key_from (set (replicate 8 0) i 1))) (sym ones) (record {
-  weighs = ap (dot (take n (replicate 8 1))) numbers_are ∙ unit_weighs 8 n i lt (omega arith);
-  is = (λ j. record { powers = unit_take 8 n i lt j; y = 0 }) ∙
-      (λ j. key_from (take (sym (long_take n (replicate 8 1) few) j) (sym numbers_are j)));
-})
+pub variable_key_is : (ws : List ℕ) (i : ℕ) → i < length ws → length ws ≤ 8 →
+    IsKeyOf ws (get_or ws i 0) (key_from (set (replicate 8 0) i 1))
+variable_key_is ws i lt few = record {
+  weighs = ap (dot ws) numbers_are ∙ unit_weighs ws 8 i lt (omega arith);
+  is = (λ j. record { powers = unit_take 8 (length ws) i lt j; y = 0 }) ∙
+      (λ j. key_from (take (length ws) (sym numbers_are j)));
+}
   where
     numbers_are : numbers 8 (powers_of 8 (set (replicate 8 0) i 1)) ≡ set (replicate 8 0) i 1
     numbers_are = numbers_of 8 (set (replicate 8 0) i 1) (length-set (replicate 8 0) i 1)
+
+-- the list of one term that is pushed, unless its coefficient is 0
+pub single_pushed : (ring : Ring) (d : ℕ) (t : Term) (c : ℕ) (none ts : List Term) → none ≡ [] →
+    ts ≡ none ++ unless_zero t → IsKeyOf (weights_of ring) d (key_of t.monomial) → t.coefficient ≡ c % modulus_of ring →
+    IsTotal ring d ((key_of t.monomial, c) ∷ []) ts
+single_pushed ring d t c none ts empty are key is =
+    subst (IsTotal ring d ((key_of t.monomial, c) ∷ [])) (sym (are ∙ ap (λ l. l ++ unless_zero t) empty))
+    (single ring d t (key_of t.monomial) c (
+      key,
+      subst (λ n. n < modulus_of ring) (sym is) (mod-lt c (let two = ring.modulus.low in omega arith)),
+    ) refl is)

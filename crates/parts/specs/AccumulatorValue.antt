@@ -59,7 +59,7 @@ abbrev pub after_multiple : AccumulatorValue → ℕ → PartValue → Accumulat
 after_multiple s c a =
     record { ring = s.ring; degree = s.degree; map = with_multiple (modulus_of s.ring) c s.map a.map }
 
--- the map of a sum that is kept as terms, or in cells
+-- the map of a sum that is kept in cells, or as terms
 abbrev pub held_map : Bool → FinMap (key_compare 8) ℕ → List Term → FinMap (key_compare 8) ℕ
-held_map true p ts = from_entries (map entry_of ts)
-held_map false p ts = p
+held_map true p ts = p
+held_map false p ts = from_entries (map entry_of ts)

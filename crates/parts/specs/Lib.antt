@@ -1,6 +1,7 @@
 pub mod Keys
 pub mod Rings
 pub mod Places
+pub mod Counting
 pub mod Cells
 pub mod Terms
 pub mod PartValue

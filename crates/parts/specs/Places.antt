@@ -5,7 +5,13 @@
 --     multipliers d ws      what a place counts for each power
 --     powers_at d ws left i      the powers at the place i, whose weights add to left; None where
 --         no monomial has that place
-use Rattle.std.specs.Prelude.{ℕ, suc, ◌+◌, ◌-◌, ◌*◌, ◌/◌, ◌%◌, ◌==◌, nat_le, cond, List, [], ◌∷◌, Option, Some, None}
+--     sum_to n f      f 0 + .. + f n
+--     monomials_at ws d      how many monomials have the degree d by the weights ws; without
+--         variables 1 has degree 0
+--     IsDense ws d      sums of degree d are kept in cells: there are at most 2^20 of them, or at
+--         most 2^24 and at most eight for each monomial
+use Rattle.std.specs.Prelude.{ℕ, zero, suc, ◌+◌, ◌-◌, ◌*◌, ◌/◌, ◌%◌, ◌^◌, ◌≤◌, ◌==◌, ◌⊎◌, nat_le, cond, List, []}
+use Rattle.std.specs.Prelude.{◌∷◌, Option, Some, None}
 use Rattle.std.specs.Option.{option_map}
 
 abbrev pub dot : List ℕ → List ℕ → ℕ
@@ -36,3 +42,17 @@ powers_from d w (v ∷ ws) left i =
 abbrev pub powers_at : ℕ → List ℕ → ℕ → ℕ → Option (List ℕ)
 powers_at d [] left i = None
 powers_at d (w ∷ ws) left i = powers_from d w ws left i
+
+-- the sum of f from 0 to n
+abbrev pub sum_to : ℕ → (ℕ → ℕ) → ℕ
+sum_to zero f = f 0
+sum_to (suc n) f = f 0 + sum_to n (λ k. f (suc k))
+
+-- the monomials of degree d: for each power of the first variable those of the others
+abbrev pub monomials_at : List ℕ → ℕ → ℕ
+monomials_at [] d = cond (d == 0) 1 0
+monomials_at (w ∷ ws) d = sum_to (d / w) (λ k. monomials_at ws (d - w * k))
+
+-- cells take at most 2^20 places, or at most 2^24 and at most eight for each monomial
+abbrev pub IsDense : List ℕ → ℕ → Type 0
+IsDense ws d = (size d ws ≤ 2 ^ 20) ⊎ ((size d ws ≤ 2 ^ 24) × (size d ws ≤ 8 * monomials_at ws d))

@@ -10,10 +10,9 @@ use Rattle.std.specs.Option.{option_map}
 use Rattle.std.specs.List.{All}
 use Rattle.std.specs.FinMap.{is_sorted}
 use Rattle.ps_model.specs.Keys.{Key, numbers, key_compare}
-use Rattle.parts.specs.Keys.{key_from}
+use Rattle.parts.specs.Keys.{key_from, MonomialValue}
 use Rattle.parts.specs.Places.{dot, powers_at}
 use Rattle.parts.specs.Cells.{cells_total, row_total}
-use Rattle.parts.specs.declared.terms.Monomial.{Monomial}
 use Rattle.parts.specs.declared.terms.Term.{Term}
 use Rattle.parts.specs.declared.cells.Placed.{Placed}
 
@@ -22,21 +21,21 @@ pub record IsKeyOf (ws : List ℕ) (d : ℕ) (k : Key 8) : Type 0 where
   pub weighs : dot ws (numbers 8 k.powers) ≡ d
   pub is : k ≡ key_from (take (length ws) (numbers 8 k.powers))
 
-abbrev pub powers_in : Monomial → List ℕ
+abbrev pub powers_in : MonomialValue → List ℕ
 powers_in x = x.powers
 
-abbrev pub key_of : Monomial → Key 8
-key_of x = key_from x.powers
+abbrev pub key_of : MonomialValue → Key 8
+key_of x = key_from (powers_in x)
 
 abbrev pub entry_of : Term → Key 8 × ℕ
-entry_of t = (key_from t.monomial.powers, t.coefficient)
+entry_of t = (key_of t.monomial, t.coefficient)
 
 abbrev pub TermsInOrder : List Term → Type 0
 TermsInOrder ts = T (is_sorted (key_compare 8) (map entry_of ts)) × All (λ t. 0 < t.coefficient) ts
 
 -- the place and the coefficient of a term
 abbrev pub placed_term : List ℕ → Term → Placed
-placed_term ms t = record { place = dot ms t.monomial.powers; coefficient = t.coefficient }
+placed_term ms t = record { place = dot ms (powers_in t.monomial); coefficient = t.coefficient }
 
 -- minus 1 modulo m, or 1
 abbrev pub sign : ℕ → Bool → ℕ
@@ -45,7 +44,8 @@ sign m minus = cond minus (m - 1) 1
 -- the total of all products of a term and a placed one
 abbrev pub products_total : (ℕ → ℕ) → List ℕ → List Term → List Placed → ℕ
 products_total f ms [] row = 0
-products_total f ms (t ∷ ts) row = row_total f (dot ms t.monomial.powers) t.coefficient row + products_total f ms ts row
+products_total f ms (t ∷ ts) row =
+    row_total f (dot ms (powers_in t.monomial)) t.coefficient row + products_total f ms ts row
 
 -- the cells new are the cells old with the products of all terms and a row added, or subtracted, modulo m
 abbrev pub GainsRows : ℕ → Bool → List ℕ → List Term → List Placed → List ℕ → List ℕ → Type 0

@@ -36,7 +36,7 @@ pub fn scaled(alloc: Global, ring: Ring, a: &Part, c: u64) -> Result<Part, OutOf
 {
     let degree = a.degree();
     let terms = scaled_terms(alloc, ring, degree, a.terms(), c)?;
-    Ok(Part::of_terms(degree, terms))
+    Ok(Part::of_terms(ring, degree, terms))
 }
 
 /// The sum of two parts of one degree, by merging their terms.
@@ -50,5 +50,5 @@ pub fn sum(alloc: Global, ring: Ring, a: &Part, b: &Part) -> Result<Part, OutOfM
 {
     let degree = a.degree();
     let terms = merged(alloc, ring, degree, a.terms(), b.terms())?;
-    Ok(Part::of_terms(degree, terms))
+    Ok(Part::of_terms(ring, degree, terms))
 }

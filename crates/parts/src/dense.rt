@@ -173,6 +173,6 @@ impl DenseSum {
             degree,
             ring.modulus(),
         )?;
-        Ok(Part::of_terms(degree, terms))
+        Ok(Part::of_terms(ring, degree, terms))
     }
 }

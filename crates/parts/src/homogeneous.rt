@@ -1,10 +1,12 @@
 //! Homogeneous parts.
-ghost use Rattle.std.specs.Prelude.{◌≡◌, ◌<◌, ◌↔◌, [], IfOk, IsTrue, map as map_list, unwrap_or};
+ghost use Rattle.std.specs.Prelude.{◌≡◌, ◌<◌, ◌↔◌, [], IfOk, IsTrue, map as map_list, slice_index, unwrap_or};
 ghost use Rattle.std.specs.FinMap as map;
 ghost use Rattle.ps_model.specs.Keys.{key_compare, y_key};
 ghost use Rattle.ps_model.specs.FiniteMaps.{value_at};
-ghost use Rattle.parts.specs.Rings.{variables_of};
-ghost use Rattle.parts.specs.Terms.{entry_of, key_of, TermsInOrder};
+ghost use Rattle.parts.specs.Rings.{variables_of, weights_of};
+ghost use Rattle.parts.specs.Terms.{entry_of, key_of, IsKeyOf, TermsInOrder};
+ghost use Rattle.parts.specs.Keys.{key_from};
+ghost use Rattle.parts.specs.TermLists.{AreTermsOf};
 ghost use Rattle.parts.specs.PartValue.{PartValue, part_code, IsPartOf, single_map, variable_key};
 
 use crate::merging::{find_coefficient, push_nonzero};
@@ -37,6 +39,28 @@ impl Model for Part {
     ghost invariant = { λ p. TermsInOrder p.terms.items };
 }
 
+/// The part of one degree with c times a product of powers, c modulo the ring's modulus.
+fn single(
+    alloc: Global,
+    ring: Ring,
+    degree: u32,
+    powers: [u16; 8],
+    c: u64,
+) -> Result<Part, OutOfMemory>
+    requires { IsKeyOf (weights_of ring) degree (key_from powers) }
+    ensures degree { IfOk result (λ p. p.degree ≡ degree) }
+    ensures map { IfOk result (λ p. p.map ≡ single_map ring (key_from powers) c) }
+    ensures part { IfOk result (IsPartOf ring) }
+{
+    let mut terms = Vec::new(alloc);
+    let term = Term {
+        monomial: Monomial::of_powers(powers),
+        coefficient: ring.modulus().reduce(c),
+    };
+    push_nonzero(&mut terms, term)?;
+    Ok(Part::of_terms(ring, degree, terms))
+}
+
 impl Part {
     /// The zero part of a degree, without memory of its own.
     pub fn zero(alloc: Global, degree: u32) -> Part
@@ -55,40 +79,30 @@ impl Part {
         ensures map { IfOk result (λ p. p.map ≡ single_map ring (y_key 8 0) c) }
         ensures part { IfOk result (IsPartOf ring) }
     {
-        let mut terms = Vec::new(alloc);
-        let term = Term {
-            monomial: Monomial { powers: [0; 8] },
-            coefficient: ring.modulus().reduce(c),
-        };
-        push_nonzero(&mut terms, term)?;
-        Ok(Part::of_terms(0, terms))
+        single(alloc, ring, 0, [0; 8], c)
     }
 
-    /// Variable i as a part of degree 1; the first one is variable 0.
+    /// Variable i, a part of the degree that is its weight; the first one is variable 0.
     pub fn variable(alloc: Global, ring: Ring, i: u32) -> Result<Part, OutOfMemory>
         requires { i < variables_of ring }
-        ensures degree { IfOk result (λ p. p.degree ≡ 1) }
+        ensures degree { IfOk result (λ p. p.degree ≡ slice_index (weights_of ring) i) }
         ensures map { IfOk result (λ p. p.map ≡ single_map ring (variable_key i) 1) }
         ensures part { IfOk result (IsPartOf ring) }
     {
         let _variables = ring.n();
         let mut powers = [0; 8];
         powers[i as usize] = 1;
-        let mut terms = Vec::new(alloc);
-        let term = Term {
-            monomial: Monomial { powers },
-            coefficient: 1,
-        };
-        push_nonzero(&mut terms, term)?;
-        Ok(Part::of_terms(1, terms))
+        single(alloc, ring, ring.weight(i), powers, 1)
     }
 
-    /// The part with these terms.
-    pub fn of_terms(degree: u32, terms: Vec<Term>) -> Part
-        requires { TermsInOrder terms.items }
+    /// The part with these terms, all of one degree by the ring's weights.
+    pub fn of_terms(ring: Ring, degree: u32, terms: Vec<Term>) -> Part
+        requires { AreTermsOf ring degree terms.items }
         ensures degree { result.degree ≡ degree }
         ensures map { result.map ≡ map.from_entries (map_list entry_of terms.items) }
+        ensures part { IsPartOf ring result }
     {
+        let _ring = ring;
         Part { degree, terms }
     }
 

@@ -25,7 +25,7 @@ mod cells;
 mod places;
 
 pub use arithmetic::{product, scaled, sum};
-pub use counting::{monomials, permitted};
+pub use counting::{counting_laws, monomials, permitted};
 pub use homogeneous::Part;
 pub use rings::Ring;
 pub use sharing::share;
@@ -33,5 +33,7 @@ pub use source::RowSource;
 pub use sums::Accumulator;
 pub use terms::{Monomial, Term};
 
+#[cfg(test)]
+mod larger_tests;
 #[cfg(test)]
 mod tests;

@@ -9,7 +9,7 @@ ghost use Rattle.parts.specs.Terms.{entry_of, key_of, TermsInOrder};
 ghost use Rattle.parts.specs.TermLists.{AreTermsOf, IsNext, IsTotal, unless_zero};
 
 use crate::rings::Ring;
-use crate::terms::{Monomial, Term, order};
+use crate::terms::{Monomial, Term};
 use ps_model::OutOfMemory;
 use std::alloc::Global;
 use std::cmp::Ordering;
@@ -61,7 +61,7 @@ fn next_term(ring: Ring, degree: u32, a: &[Term], b: &[Term], left: usize, right
     }
     let x = a[left];
     let y = b[right];
-    match order(&x.monomial.powers, &y.monomial.powers) {
+    match x.monomial.order(&y.monomial) {
         Ordering::Less => Next {
             term: x,
             left: left + 1,
@@ -144,7 +144,7 @@ pub fn find_coefficient(terms: &[Term], at: &Monomial) -> u64
     while low < high {
         let middle = low + (high - low) / 2;
         let term = terms[middle];
-        match order(&term.monomial.powers, &at.powers) {
+        match term.monomial.order(at) {
             Ordering::Less => low = middle + 1,
             Ordering::Greater => high = middle,
             Ordering::Equal => return term.coefficient,

@@ -1,28 +1,35 @@
 //! Monomials, terms, and the places of monomials among cells.
 ghost use Rattle.std.specs.Prelude.{◌≡◌, ℕ, ◌+◌, ◌-◌, ◌*◌, ◌%◌, ◌^◌, ◌<◌, ◌≤◌, length, take, All};
 ghost use Rattle.std.specs.Prelude.{IfOk, OnErr};
-ghost use Rattle.std.specs.Prelude.{IfSome, IsTrue, slice_index, map as map_list, Some, None};
+ghost use Rattle.std.specs.Prelude.{IfSome, IsNone, IsTrue, slice_index, slice_index_or};
+ghost use Rattle.std.specs.Prelude.{List, ◌∷◌, ◌↔◌, map as map_list, Some, None};
 ghost use Rattle.std.specs.Prelude.{if◌then◌else◌, []};
 ghost use Rattle.std.specs.Prelude.{replicate};
-ghost use Rattle.parts.specs.Places.{dot, size, multipliers, powers_at};
+ghost use Rattle.parts.specs.Places.{dot, size, multipliers, powers_at, monomials_at};
+ghost use Rattle.parts.specs.Places.{IsDense};
 ghost use Rattle.residue.specs.Residues.{number_of};
 ghost use Rattle.parts.specs.Terms.{entry_of, finished, key_at, placed_term, GainsRows};
 
 use crate::cells::{Fold, Placed, add_row};
+use crate::counting::add_variable;
 use crate::terms::{Monomial, Term};
 use ps_model::OutOfMemory;
 use residue::Modulus;
 use std::alloc::Global;
 
+/// Up to so many cells a sum is kept in cells however few of them have a monomial.
+const FEW_CELLS: usize = 1 << 20;
+
 /// More cells than this are refused.
-pub const MOST_CELLS: usize = 1 << 24;
+const MOST_CELLS: usize = 1 << 24;
 
 /// What a place counts for each power, and the number of places; None where there are too many.
-pub fn make_sizes(degree: u32, weights: &[u16], sizes: &mut [usize]) -> Option<usize>
+fn make_sizes(degree: u32, weights: &[u16], sizes: &mut [usize]) -> Option<usize>
     requires as_many { length weights.now ≡ length sizes.old }
     requires positive { All (λ w. 0 < w) weights.now }
     ensures count { IfSome result (λ count. count ≡ size degree weights.now) }
     ensures few { IfSome result (λ count. count ≤ 2 ^ 24) }
+    ensures many { IsNone result → 2 ^ 24 < size degree weights.now }
     ensures sizes { IfSome result (λ _. sizes.new ≡ multipliers degree weights.now) }
 {
     let n = weights.len();
@@ -43,15 +50,47 @@ pub fn make_sizes(degree: u32, weights: &[u16], sizes: &mut [usize]) -> Option<u
     Some(count)
 }
 
+/// How many monomials have a degree.
+fn monomials_of_degree(weights: &[u16], degree: u32) -> u128
+    requires positive { All (λ w. 0 < w) weights.now }
+    requires low { degree ≤ 4095 }
+    requires few { size degree weights.now ≤ 2 ^ 24 }
+    ensures count { result ≡ monomials_at weights.now degree }
+    ensures small { result ≤ 2 ^ 36 }
+{
+    let n = weights.len();
+    let mut counts = [0; 4096];
+    counts[0] = 1;
+    for k in 0..n {
+        add_variable(&mut counts, weights[n - 1 - k], degree);
+    }
+    counts[degree as usize]
+}
+
+/// Whether sums of a degree are kept in cells, and not as sorted terms.
+pub fn is_dense(weights: &[u16], degree: u32) -> bool
+    requires few { length weights.now ≤ 8 }
+    requires positive { All (λ w. 0 < w) weights.now }
+    requires low { degree ≤ 4095 }
+    ensures { IsTrue result ↔ IsDense weights.now degree }
+{
+    let mut sizes = [0; 8];
+    let Some(cells) = make_sizes(degree, weights, &mut sizes[..weights.len()]) else {
+        return false;
+    };
+    cells <= FEW_CELLS || cells as u128 <= 8 * monomials_of_degree(weights, degree)
+}
+
 /// The place of a monomial.
 pub fn place(sizes: &[usize], monomial: &Monomial) -> usize
     requires few { length sizes.now ≤ 8 }
     requires fits { dot sizes.now monomial.now.powers < 2 ^ 63 }
     ensures { result ≡ dot sizes.now monomial.now.powers }
 {
+    let powers = monomial.powers();
     let mut place = 0;
     for j in 0..sizes.len() {
-        place += sizes[j] * monomial.powers[j] as usize;
+        place += sizes[j] * powers[j] as usize;
     }
     place
 }
@@ -91,7 +130,7 @@ pub fn fill_powers(
 }
 
 /// Places terms as a row.
-// Inlined, since a product of parts with one term each is mostly this call.
+// Inlined, since that saves a quarter of a product of parts with one term each.
 #[inline(always)]
 pub fn place_terms(
     row: &mut Vec<Placed>,
@@ -174,7 +213,7 @@ pub fn collect_terms(
             let mut powers = [0; 8];
             if fill_powers(&mut powers[..n], weights, sizes, degree, at) {
                 let term = Term {
-                    monomial: Monomial { powers },
+                    monomial: Monomial::of_powers(powers),
                     coefficient,
                 };
                 if terms.push(term).is_err() {

@@ -1,5 +1,5 @@
 //! Where the parts of a job's polynomial come from.
-ghost use Rattle.std.specs.Prelude.{◌≡◌, IfOk};
+ghost use Rattle.std.specs.Prelude.{◌≡◌, take, IfOk};
 ghost use Rattle.ps_model.specs.declared.job.JobData.{JobData};
 ghost use Rattle.parts.specs.JobRows.{IsPermitted, IsInputRow};
 ghost use Rattle.parts.specs.RowsOfParts.{parts_of};
@@ -16,7 +16,7 @@ pub trait RowSource: Send {
     /// The parts of degree r of the polynomial: `row[j]` belongs to Y^j, from Y^0 to the formal
     /// degree. The job stays, also on a refusal.
     fn row(&mut self, r: u32) -> Result<Vec<Arc<Part>>, OutOfMemory>
-        requires { IsPermitted (job self.old).n r }
+        requires { IsPermitted (take (job self.old).n (job self.old).weights) r }
         ensures row { IfOk result (λ row. IsInputRow (job self.old) r (parts_of row.items)) }
         ensures same_job { job self.new ≡ job self.old };
 }

@@ -1,30 +1,17 @@
 //! Sums of products as sorted terms: less memory than cells where few places have a monomial.
-ghost use Rattle.std.specs.Prelude.{◌≡◌, ℕ, ◌+◌, ◌^◌, ◌<◌, ◌≤◌, [], ◌∷◌, ◌++◌, slice_index, IfOk};
+ghost use Rattle.std.specs.Prelude.{◌+◌, ◌≤◌, [], ◌∷◌, ◌++◌, IfOk};
 ghost use Rattle.std.specs.Prelude.{map as map_list};
 ghost use Rattle.ps_model.specs.Keys.{add_keys};
 ghost use Rattle.ps_model.specs.Sums.{multiples, products};
-ghost use Rattle.parts.specs.Keys.{key_from};
 ghost use Rattle.parts.specs.Rings.{modulus_of};
 ghost use Rattle.parts.specs.Terms.{entry_of, key_of, sign};
 ghost use Rattle.parts.specs.TermLists.{AreTermsOf, IsTotal, row_of};
 
 use crate::merging::{merged, push_nonzero, scaled_terms};
 use crate::rings::Ring;
-use crate::terms::{Monomial, Term};
+use crate::terms::Term;
 use ps_model::OutOfMemory;
 use std::alloc::Global;
-
-/// The powers of a product of monomials.
-fn added_powers(x: &[u16; 8], y: &[u16; 8]) -> [u16; 8]
-    requires { (i : ℕ) → i < 8 → slice_index x.now i + slice_index y.now i < 2 ^ 16 }
-    ensures { key_from result ≡ add_keys 8 (key_from x.now) (key_from y.now) }
-{
-    let mut powers = [0; 8];
-    for i in 0..8 {
-        powers[i] = x[i] + y[i];
-    }
-    powers
-}
 
 /// The products of a monomial and a number with each term of a list.
 fn row_terms(
@@ -47,9 +34,7 @@ fn row_terms(
     for t in terms {
         let coefficient = (u128::from(c) * u128::from(t.coefficient) % m) as u64;
         let term = Term {
-            monomial: Monomial {
-                powers: added_powers(&x.monomial.powers, &t.monomial.powers),
-            },
+            monomial: x.monomial.times(&t.monomial),
             coefficient,
         };
         push_nonzero(&mut row, term)?;

@@ -1,26 +1,23 @@
 //! Sums of many products.
-ghost use Rattle.std.specs.Prelude.{◌≡◌, ◌+◌, ◌<◌, ◌≤◌, IfOk, OnOk, OnErr};
+ghost use Rattle.std.specs.Prelude.{◌≡◌, ◌+◌, ◌<◌, ◌≤◌, ◌↔◌, IfOk, OnOk, OnErr, IsTrue};
 ghost use Rattle.std.specs.FinMap as map;
-ghost use Rattle.parts.specs.Rings.{modulus_of};
+ghost use Rattle.parts.specs.Rings.{modulus_of, weights_of};
+ghost use Rattle.parts.specs.Places.{IsDense};
 ghost use Rattle.parts.specs.PartValue.{IsPartOf};
 ghost use Rattle.parts.specs.AccumulatorValue.{AccumulatorValue, accumulator_code};
 ghost use Rattle.parts.specs.AccumulatorValue.{after_multiple, after_product};
 ghost use Rattle.parts.specs.AccumulatorValue.{held_map};
 ghost use Rattle.parts.specs.TermLists.{AreTermsOf};
 
-use crate::counting::monomials;
 use crate::dense::DenseSum;
 use crate::homogeneous::Part;
-use crate::places::MOST_CELLS;
+use crate::places::is_dense;
 use crate::rings::Ring;
 use crate::sparse::{with_multiple_of, with_products};
 use crate::terms::Term;
 use ps_model::OutOfMemory;
 use std::alloc::Global;
 use std::marker::Model;
-
-/// Up to so many cells a sum is kept in cells however few of them have a monomial.
-const FEW_CELLS: u128 = 1 << 20;
 
 /// A sum of products of parts, all of one degree.
 ///
@@ -29,7 +26,7 @@ const FEW_CELLS: u128 = 1 << 20;
 #[derive(Drop)]
 pub struct Accumulator {
     alloc: Global,
-    is_sparse: bool,
+    is_dense: bool,
     dense: DenseSum,
     terms: Vec<Term>,
 }
@@ -42,23 +39,12 @@ impl Model for Accumulator {
     ghost view = { λ s. record {
       ring = s.dense.ring;
       degree = s.dense.degree;
-      map = held_map s.is_sparse s.dense.map s.terms.items;
+      map = held_map s.is_dense s.dense.map s.terms.items;
     } };
 
     ghost invariant = { λ s. (s.dense.degree ≤ 4095)
+        × (IsTrue s.is_dense ↔ IsDense (weights_of s.dense.ring) s.dense.degree)
         × AreTermsOf s.dense.ring s.dense.degree s.terms.items };
-}
-
-/// Whether a sum of this degree is better kept as terms than in cells.
-fn is_sparse(ring: Ring, degree: u32) -> bool
-    requires { degree ≤ 4095 }
-{
-    let others = ring.n() - 1;
-    let mut cells: u128 = 1;
-    for _ in 0..others {
-        cells = cells.saturating_mul(u128::from(degree) + 1);
-    }
-    cells > MOST_CELLS as u128 || cells > FEW_CELLS && cells / 8 > monomials(others, degree)
 }
 
 impl Accumulator {
@@ -67,9 +53,11 @@ impl Accumulator {
         requires { degree ≤ 4095 }
         ensures { result ≡ record { ring = ring; degree = degree; map = map.empty } }
     {
+        let n = ring.n() as usize;
+        let weights = ring.weights();
         Accumulator {
             alloc,
-            is_sparse: is_sparse(ring, degree),
+            is_dense: is_dense(&weights[..n], degree),
             dense: DenseSum::new(alloc, ring, degree),
             terms: Vec::new(alloc),
         }
@@ -82,7 +70,7 @@ impl Accumulator {
         ensures ok { OnOk result (self.new ≡ after_product self.old minus a.now b.now) }
         ensures err { OnErr result (self.new ≡ self.old) }
     {
-        if !self.is_sparse {
+        if self.is_dense {
             return self.dense.add_product(a, b, minus);
         }
         let ring = self.dense.ring();
@@ -109,7 +97,7 @@ impl Accumulator {
         ensures ok { OnOk result (self.new ≡ after_multiple self.old c a.now) }
         ensures err { OnErr result (self.new ≡ self.old) }
     {
-        if !self.is_sparse {
+        if self.is_dense {
             return self.dense.add_scaled(a, c);
         }
         let ring = self.dense.ring();
@@ -126,14 +114,14 @@ impl Accumulator {
         ensures part { IfOk result (IsPartOf self.ring) }
     {
         let Accumulator {
-            is_sparse,
+            is_dense,
             dense,
             terms,
             ..
         } = self;
-        if is_sparse {
-            return Ok(Part::of_terms(dense.degree(), terms));
+        if is_dense {
+            return dense.finish();
         }
-        dense.finish()
+        Ok(Part::of_terms(dense.ring(), dense.degree(), terms))
     }
 }

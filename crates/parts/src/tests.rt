@@ -9,16 +9,20 @@ fn a_term_takes_32_bytes_at_most(rt: HostRuntime) {
 }
 
 #[test]
-fn monomials_are_counted(rt: HostRuntime) {
+fn monomials_are_counted(rt: HostRuntime) -> Result<(), Fail> {
+    let modulus = Modulus::new(7)?;
     // C(256, 2) = 256 * 255 / 2, C(17, 8) = 24310, C(4103, 8) by another program
     for (n, d, count) in [
-        (0, 4095, 1),
         (1, 4095, 4096),
         (2, 254, 32640),
         (8, 9, 24310),
         (8, 4095, 1978454467884214565470720),
     ] {
-        assert_eq!(rt; monomials(n, d), count, "of {n} variables up to degree {d}");
+        assert_eq!(rt;
+            monomials(Ring::new(modulus, n), d),
+            count,
+            "of {n} variables up to degree {d}"
+        );
     }
     for (n, d, is_permitted) in [
         (2, 254, true),
@@ -27,10 +31,38 @@ fn monomials_are_counted(rt: HostRuntime) {
         (8, 10, false),
         (1, 4095, true),
         (1, 4096, false),
-        (0, 4294967295, false),
+        (1, 4294967295, false),
     ] {
-        assert_eq!(rt; permitted(n, d), is_permitted, "{n} variables, degree {d}");
+        assert_eq!(rt;
+            permitted(Ring::new(modulus, n), d),
+            is_permitted,
+            "{n} variables, degree {d}"
+        );
     }
+    Ok(())
+}
+
+#[test]
+fn monomials_are_counted_by_weights(rt: HostRuntime) -> Result<(), Fail> {
+    let modulus = Modulus::new(7)?;
+    // of x with weight 1 and y with weight 3: the sum of d - 3 j + 1 over j from 0 to d / 3
+    let ring = Ring::weighted(modulus, 2, [1, 3, 1, 1, 1, 1, 1, 1]);
+    for (d, count, is_permitted) in [
+        (0, 1, true),
+        (2, 3, true),
+        (3, 5, true),
+        (440, 32634, true),
+        (441, 32782, false),
+    ] {
+        assert_eq!(rt; monomials(ring, d), count, "up to degree {d}");
+        assert_eq!(rt; permitted(ring, d), is_permitted, "degree {d}");
+    }
+    // of weight 64 alone: the powers 0 to 63 up to degree 4095
+    let heavy = Ring::weighted(modulus, 1, [64, 1, 1, 1, 1, 1, 1, 1]);
+    assert_eq!(rt; monomials(heavy, 63), 1);
+    assert_eq!(rt; monomials(heavy, 4095), 64);
+    assert_eq!(rt; heavy.weight(0), 64);
+    Ok(())
 }
 
 #[test]
@@ -119,5 +151,34 @@ fn eight_variables_are_summed_as_terms(rt: HostRuntime) -> Result<(), Fail> {
     total.add_scaled(&nine, 1)?;
     total.add_product(&four, &five, true)?;
     assert!(rt; total.finish()?.is_zero());
+    Ok(())
+}
+
+#[test]
+fn degrees_are_by_weights(rt: HostRuntime) -> Result<(), Fail> {
+    let alloc = rt.alloc();
+    // x of weight 2 and y of weight 3: (xxx + y y)(2 y) = 2 xxxy + 2 yyy, of degree 9
+    let ring = Ring::weighted(Modulus::new(101)?, 2, [2, 3, 1, 1, 1, 1, 1, 1]);
+    let x = Part::variable(alloc, ring, 0)?;
+    let y = Part::variable(alloc, ring, 1)?;
+    assert_eq!(rt; x.degree(), 2);
+    assert_eq!(rt; y.degree(), 3);
+    let square = product(alloc, ring, &x, &x)?;
+    let cube = product(alloc, ring, &square, &x)?;
+    let left = sum(alloc, ring, &cube, &product(alloc, ring, &y, &y)?)?;
+    assert_eq!(rt; left.degree(), 6);
+    let part = product(alloc, ring, &left, &scaled(alloc, ring, &y, 2)?)?;
+    assert_eq!(rt; part.degree(), 9);
+    assert_eq!(rt; part.terms().len(), 2);
+    for powers in [[3, 1, 0, 0, 0, 0, 0, 0], [0, 3, 0, 0, 0, 0, 0, 0]] {
+        let at = Monomial::of(ring, powers);
+        assert_eq!(rt;
+            part.coefficient(&at),
+            2,
+            "at the powers {}, {}",
+            powers[0],
+            powers[1]
+        );
+    }
     Ok(())
 }

@@ -81,12 +81,22 @@ PullsMore-joined a b d left left' left'' one two =
     two.1 ∙ (first ∙ append_assoc a.pulled one.0 two.0) in
     (one.0 ++ two.0, bytes, TakesBytes-joined left left' left'' one.0 two.0 one.2 two.2)
 
--- a buffer that isn't full and has no newline behind the last line holds no line
+-- a buffer that isn't full is below the limit, so no newline stands behind the last line
+pub no_newline_left : (r : Reading) → length r.pulled < 1048577 →
+    HasNoNewline (drop r.place (take 1048576 r.pulled)) → HasNoNewline (rest_of r)
+no_newline_left r free none =
+    let all : take 1048576 r.pulled ≡ r.pulled = take_all 1048576 r.pulled (omega arith) in
+    rw all at none
+
+pub no_newline-same : (a b : Reading) → b.pulled ≡ a.pulled → b.place ≡ a.place →
+    HasNoNewline (rest_of a) → HasNoNewline (rest_of b)
+no_newline-same a b same place none = rw (same, place) none
+
+-- such a buffer holds no line
 pub no_line : (r : Reading) → length r.pulled < 1048577 →
     HasNoNewline (drop r.place (take 1048576 r.pulled)) → HoldsLine r → ⊥
 no_line r free none holds =
-    let all : take 1048576 r.pulled ≡ r.pulled = take_all 1048576 r.pulled (omega arith) in
-    (rw all at none) holds.0 10 holds.1 holds.2
+    no_newline_left r free none holds.0 10 holds.1 holds.2
 
 pub HoldsLine-same : (a b : Reading) → b.pulled ≡ a.pulled → b.place ≡ a.place → HoldsLine a → HoldsLine b
 HoldsLine-same a b same place holds = rw (same, place) holds

@@ -23,6 +23,10 @@ mod memory_source;
 // a sink with a given room
 mod memory_sink;
 
+// a source over a reader, and a sink over a writer, of the standard library
+mod read_source;
+mod write_sink;
+
 // standard input and output
 mod standard;
 
@@ -35,7 +39,9 @@ pub use calm::{CalmSink, CalmSource};
 pub use lines::{Lines, NextLine};
 pub use memory_sink::MemorySink;
 pub use memory_source::MemorySource;
+pub use read_source::ReadSource;
 pub use sink::{Pushed, Sink};
 pub use source::{Pulled, Source};
 pub use standard::{StdSink, StdSource};
+pub use write_sink::WriteSink;
 pub use writing::{WriteFault, put_all};

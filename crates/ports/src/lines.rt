@@ -1,4 +1,4 @@
-ghost use Rattle.std.specs.Prelude.{◌≡◌, ◌⊎◌, ℕ, ◌+◌, ◌-◌, ◌<◌, ◌≤◌, ◌↔◌, [], IfOk, IfNone};
+ghost use Rattle.std.specs.Prelude.{◌≡◌, ◌≢◌, ◌⊎◌, ℕ, ◌+◌, ◌-◌, ◌<◌, ◌≤◌, ◌↔◌, [], IfOk, IfNone};
 ghost use Rattle.std.specs.Prelude.{IfSome};
 ghost use Rattle.std.specs.Prelude.{MatchOption, drop, length, slice_index, take, true, false};
 ghost use Rattle.std.specs.Bool.{OnFalse, OnTrue};
@@ -112,12 +112,16 @@ impl Lines {
         ensures end { result ≡ NextLine.End → (self.new.ended ≡ true) × (rest_of self.new ≡ []) }
         ensures failed { result ≡ NextLine.Failed →
             Rose (S.faults source.old) (S.faults source.new) }
+        ensures short { result ≡ NextLine.Failed → HasNoNewline (rest_of self.new) }
+        ensures going { result ≡ NextLine.Failed → self.new.ended ≡ false }
         ensures keeps { (result ≡ NextLine.Line → ⊥) → KeepsLine self.old self.new }
 
         // The end and the faults of the source.
         ensures ended { self.new.ended ≡ true →
             (self.old.ended ≡ true) ⊎ AllTaken (S.left source.new) }
         ensures ended_stays { self.old.ended ≡ true → self.new.ended ≡ true }
+        ensures no_fault { result ≢ NextLine.Failed →
+            S.faults source.new ≡ S.faults source.old }
         ensures faults { S.faults source.old ≤ S.faults source.new }
     {
         loop {
@@ -244,7 +248,9 @@ impl Lines {
         ensures more { OnTrue result
             (length self.old.pulled < length self.new.pulled ⊎ (self.new.ended ≡ true)) }
         ensures stays { OnFalse result (self.new.pulled ≡ self.old.pulled) }
+        ensures going { OnFalse result (self.new.ended ≡ false) }
         ensures failed { OnFalse result (Rose (S.faults source.old) (S.faults source.new)) }
+        ensures no_fault { OnTrue result (S.faults source.new ≡ S.faults source.old) }
         ensures faults { S.faults source.old ≤ S.faults source.new }
     {
         match pull_behind(source, self.buffer.as_mut_slice(), self.filled) {
@@ -292,6 +298,7 @@ fn pull_behind<S: Source>(source: &mut S, bytes: &mut [u8], place: usize) -> Pul
     ensures moves { MovesBytes (S.left source.old) (S.left source.new)
         (drop place bytes.new) result }
     ensures failed { result ≡ Pulled.Failed → Rose (S.faults source.old) (S.faults source.new) }
+    ensures no_fault { result ≢ Pulled.Failed → S.faults source.new ≡ S.faults source.old }
     ensures faults { S.faults source.old ≤ S.faults source.new }
 {
     source.pull(&mut bytes[place..])

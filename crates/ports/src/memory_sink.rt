@@ -1,4 +1,4 @@
-ghost use Rattle.std.specs.Prelude.{◌≡◌, ℕ, ◌<◌, ◌≤◌, ◌↔◌, [], IfOk, length};
+ghost use Rattle.std.specs.Prelude.{◌≡◌, ◌≢◌, ℕ, ◌<◌, ◌≤◌, ◌↔◌, [], IfOk, length};
 ghost use Rattle.ports.specs.Bytes.{AddsBytes, TakesCount};
 ghost use Rattle.ports.specs.Faults.{Rose};
 ghost use Rattle.ports.specs.Store.{Pushes};
@@ -74,6 +74,7 @@ impl Sink for MemorySink {
         ensures count { TakesCount result (length piece.now) }
         ensures adds { AddsBytes (Some self.old.bytes) (Some self.new.bytes) piece.now result }
         ensures failed { result ≡ Pushed.Failed → Rose self.old.faults self.new.faults }
+        ensures no_fault { result ≢ Pushed.Failed → self.new.faults ≡ self.old.faults }
         ensures faults { self.old.faults ≤ self.new.faults }
         ensures full { (result ≡ Pushed.Failed) ↔ (self.old.room ≡ 0) }
         ensures exact { Pushes self.old self.new piece.now result }

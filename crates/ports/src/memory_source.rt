@@ -1,4 +1,4 @@
-ghost use Rattle.std.specs.Prelude.{◌≡◌, ℕ, ◌<◌, ◌≤◌, ◌↔◌, All, Contains, IsTrue};
+ghost use Rattle.std.specs.Prelude.{◌≡◌, ◌≢◌, ℕ, ◌<◌, ◌≤◌, ◌↔◌, All, Contains, IsTrue};
 ghost use Rattle.std.specs.Prelude.{length, map, vec_len};
 ghost use Rattle.std.specs.List.{concat};
 ghost use Rattle.ports.specs.Bytes.{GivesCount, MovesBytes};
@@ -71,6 +71,7 @@ impl Source for MemorySource {
         ensures moves { MovesBytes (Some (concat self.old.pieces))
             (Some (concat self.new.pieces)) into.new result }
         ensures failed { result ≡ Pulled.Failed → Rose self.old.faults self.new.faults }
+        ensures no_fault { result ≢ Pulled.Failed → self.new.faults ≡ self.old.faults }
         ensures faults { self.old.faults ≤ self.new.faults }
         ensures fails { (result ≡ Pulled.Failed) ↔
             Contains self.old.failing (raised self.old.pulls) }

@@ -1,4 +1,4 @@
-ghost use Rattle.std.specs.Prelude.{◌≡◌, ℕ, ◌<◌, ◌≤◌, List, Option, length};
+ghost use Rattle.std.specs.Prelude.{◌≡◌, ◌≢◌, ℕ, ◌<◌, ◌≤◌, List, Option, length};
 ghost use Rattle.ports.specs.Bytes.{AddsBytes, TakesCount};
 ghost use Rattle.ports.specs.Faults.{Rose};
 
@@ -26,5 +26,6 @@ pub trait Sink {
         ensures count { TakesCount result (length piece.now) }
         ensures adds { AddsBytes (written self.old) (written self.new) piece.now result }
         ensures failed { result ≡ Pushed.Failed → Rose (faults self.old) (faults self.new) }
+        ensures no_fault { result ≢ Pushed.Failed → faults self.new ≡ faults self.old }
         ensures faults { faults self.old ≤ faults self.new };
 }

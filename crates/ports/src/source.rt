@@ -1,4 +1,4 @@
-ghost use Rattle.std.specs.Prelude.{◌≡◌, ℕ, ◌<◌, ◌≤◌, List, Option, length};
+ghost use Rattle.std.specs.Prelude.{◌≡◌, ◌≢◌, ℕ, ◌<◌, ◌≤◌, List, Option, length};
 ghost use Rattle.ports.specs.Bytes.{GivesCount, MovesBytes};
 ghost use Rattle.ports.specs.Faults.{Rose};
 
@@ -28,5 +28,6 @@ pub trait Source {
         ensures count { GivesCount result (length into.new) }
         ensures moves { MovesBytes (left self.old) (left self.new) into.new result }
         ensures failed { result ≡ Pulled.Failed → Rose (faults self.old) (faults self.new) }
+        ensures no_fault { result ≢ Pulled.Failed → faults self.new ≡ faults self.old }
         ensures faults { faults self.old ≤ faults self.new };
 }

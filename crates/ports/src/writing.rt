@@ -1,4 +1,4 @@
-ghost use Rattle.std.specs.Prelude.{◌≤◌, OnErr, OnOk};
+ghost use Rattle.std.specs.Prelude.{◌≡◌, ◌≤◌, OnErr, OnOk};
 ghost use Rattle.ports.specs.Bytes.{WritesAll, WritesPart};
 ghost use Rattle.ports.specs.Faults.{Rose};
 
@@ -26,6 +26,7 @@ impl Error for WriteFault {}
 pub fn put_all<K: Sink>(sink: &mut K, piece: &[u8]) -> Result<(), WriteFault>
     ensures ok { OnOk result (WritesAll (K.written sink.old) (K.written sink.new) piece.now) }
     ensures err { OnErr result (WritesPart (K.written sink.old) (K.written sink.new) piece.now) }
+    ensures no_fault { OnOk result (K.faults sink.new ≡ K.faults sink.old) }
     ensures fault { OnErr result (Rose (K.faults sink.old) (K.faults sink.new)) }
     ensures faults { K.faults sink.old ≤ K.faults sink.new }
 {

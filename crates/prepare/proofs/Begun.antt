@@ -70,6 +70,12 @@ one_row : (ring : Ring) (K : ℕ) (row : List PartValue) → IsRowOfParts ring K
 one_row ring K row is zero lt = is
 one_row ring K row is (suc r) lt = absurd (omega arith)
 
+-- what the rows of degree 0 give
+pub record IsBegun (ring : Ring) (k q inverse : ℕ) (row : List PartValue) (rows_p rows_u : List (List PartValue))
+    : Type 0 where
+  pub is_prep : IsPrep (record { ring = ring; k = k; q = q; rows_p = rows_p; rows_u = rows_u }) inverse
+  pub begins : Begins ring k row (record { ring = ring; k = k; q = q; rows_p = rows_p; rows_u = rows_u })
+
 module _ (ring : Ring) (k q inverse : ℕ) (row row_p : List PartValue) (some : 1 ≤ k) (q_is : k + q + 1 ≡ length row)
     (few : length row ≤ 33) (is : IsRowOfParts ring (length row - 1) 0 row) (none : HasNoneBelow k row)
     (residue : inverse < modulus_of ring)
@@ -133,15 +139,6 @@ module _ (ring : Ring) (k q inverse : ℕ) (row row_p : List PartValue) (some : 
     }
 
     pub begun_with : (rows_p rows_u : List (List PartValue)) → rows_p ≡ row_p ∷ [] → rows_u ≡ drop k row ∷ []
-        → IsPrep (record { ring = ring; k = k; q = q; rows_p = rows_p; rows_u = rows_u }) inverse
-    begun_with rows_p rows_u ps us =
-        subst (λ t. IsPrep (record { ring = ring; k = k; q = q; rows_p = t; rows_u = rows_u }) inverse) (sym ps)
-        (subst (λ t. IsPrep (record { ring = ring; k = k; q = q; rows_p = row_p ∷ []; rows_u = t }) inverse) (sym us)
-        begun)
-
-    pub begins_with : (rows_p rows_u : List (List PartValue)) → rows_p ≡ row_p ∷ [] → rows_u ≡ drop k row ∷ []
-        → Begins ring k row (record { ring = ring; k = k; q = q; rows_p = rows_p; rows_u = rows_u })
-    begins_with rows_p rows_u ps us =
-        subst (λ t. Begins ring k row (record { ring = ring; k = k; q = q; rows_p = t; rows_u = rows_u })) (sym ps)
-        (subst (λ t. Begins ring k row (record { ring = ring; k = k; q = q; rows_p = row_p ∷ []; rows_u = t })) (sym us)
-        begins)
+        → IsBegun ring k q inverse row rows_p rows_u
+    begun_with rows_p rows_u ps us = subst (λ t. IsBegun ring k q inverse row t rows_u) (sym ps)
+        (subst (λ t. IsBegun ring k q inverse row (row_p ∷ []) t) (sym us) (record { is_prep = begun; begins = begins }))

@@ -24,7 +24,7 @@ use Rattle.prepare.specs.PrepValue.{PrepValue, IsPrep, degrees_of}
 use Rattle.prepare.specs.Recurrence.{poly, slices, next_p, next_u, IsNextOfP, IsNextOfU}
 
 -- rows with one more
-rows_more : (ring : Ring) (K : ℕ) (rows : List (List PartValue)) (row : List PartValue)
+pub rows_more : (ring : Ring) (K : ℕ) (rows : List (List PartValue)) (row : List PartValue)
     → AreRowsOfParts ring K rows → IsRowOfParts ring K (length rows) row → AreRowsOfParts ring K (rows ++ row ∷ [])
 rows_more ring K rows row are is r lt = elim (cases_lt r (length rows)) as
     (λ _. IsRowOfParts ring K r (get_or (rows ++ row ∷ []) r [])) [
@@ -187,7 +187,14 @@ module _ (prep : PrepValue) (inverse : ℕ) (is : IsPrep prep inverse) (row row_
       last : suc (length prep.rows_p - 1) ≡ length (prep.rows_p ++ row_p ∷ []) - 1
       last = let begun = is.begun in omega (arith, more_p)
 
--- The same under the names that a caller has for the lists.
+-- what a step gives, under the names that a caller has for the lists
+pub record IsStepped (old : PrepValue) (inverse : ℕ) (row : List PartValue) (new_p new_u : List (List PartValue))
+    : Type 0 where
+  pub is_prep : degrees_of old ≤ 4095
+      → IsPrep (record { ring = old.ring; k = old.k; q = old.q; rows_p = new_p; rows_u = new_u }) inverse
+  pub adds : (seen : PrepValue) → old ≡ seen
+      → Adds row seen (record { ring = old.ring; k = old.k; q = old.q; rows_p = new_p; rows_u = new_u })
+
 module _ (old : PrepValue) (inverse : ℕ) (is : IsPrep old inverse) (row row_p row_u last : List PartValue)
     (read_p read_u new_p new_u : List (List PartValue)) (p_read : read_p ≡ old.rows_p) (u_read : read_u ≡ old.rows_u)
     (last_is : last ≡ row_p) (p_is : IsNextOfP old.ring old.k inverse read_p read_u row row_p)
@@ -208,12 +215,10 @@ module _ (old : PrepValue) (inverse : ℕ) (is : IsPrep old inverse) (row row_p 
       (subst (λ (t : List PartValue). IsNextOfU old.ring old.k old.q read_p t old.rows_u row row_u) last_is
       (subst (λ (t : List (List PartValue)). IsNextOfU old.ring old.k old.q read_p last t row row_u) u_read u_is))
 
-  -- the invariant
-  pub stepped_with : degrees_of old ≤ 4095 → IsPrep grown inverse
-  stepped_with le = subst (λ (t : PrepValue). IsPrep t inverse) grown_is
-      (stepped old inverse is row row_p row_u by_p by_u le)
-
-  -- what was added
-  pub adds_with : (seen : PrepValue) → old ≡ seen → Adds row seen grown
-  adds_with seen same = subst (λ (t : PrepValue). Adds row t grown) same
-      (subst (Adds row old) grown_is (adds old inverse is row row_p row_u by_p by_u))
+  pub stepped_with : IsStepped old inverse row new_p new_u
+  stepped_with = record {
+    is_prep = λ le. subst (λ (t : PrepValue). IsPrep t inverse) grown_is
+        (stepped old inverse is row row_p row_u by_p by_u le);
+    adds = λ seen same. subst (λ (t : PrepValue). Adds row t grown) same
+        (subst (Adds row old) grown_is (adds old inverse is row row_p row_u by_p by_u));
+  }

@@ -1,3 +1,4 @@
 pub mod PrepValue
 pub mod Calls
 pub mod Recurrence
+pub mod ErrorText

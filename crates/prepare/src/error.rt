@@ -15,6 +15,11 @@ pub enum PrepError {
 }
 
 impl fmt::Display for PrepError {
+    ghost use Rattle.std.specs.Prelude.{Some};
+    ghost use Rattle.prepare.specs.ErrorText.{error_text};
+
+    ghost output = { λ e. Some (error_text e) };
+
     fn fmt<W: fmt::Write>(&self, f: &mut fmt::Formatter<W>) -> fmt::Result {
         match self {
             PrepError::NotPrepared { power } => write!(f, "not zero at Y^{power}"),

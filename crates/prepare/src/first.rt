@@ -25,7 +25,7 @@ pub fn lowest_below(row: &[Arc<Part>], k: u32) -> Option<u32>
     None
 }
 
-/// The constant term of a part.
+/// The constant term of a part, as w_0(0) of that of G at Y^k.
 pub fn constant_term(ring: Ring, part: &Part) -> u64
     ensures constant { result ≡ constant_of ring part.now }
     ensures residue { result < modulus_of ring }
@@ -34,7 +34,7 @@ pub fn constant_term(ring: Ring, part: &Part) -> u64
     ring.modulus().reduce(part.coefficient(&origin))
 }
 
-/// The row of degree 0 of Y^k.
+/// The row of degree 0 of Y^k: a_i(0) = 0 for i below k, and 1 at Y^k.
 pub fn power_of_y(alloc: Global, ring: Ring, k: u32) -> Result<Vec<Arc<Part>>, OutOfMemory>
     requires { k ≤ 32 }
     ensures { IfOk result (λ row. IsPowerOfY ring k (parts_of row.items)) }

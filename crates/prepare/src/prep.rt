@@ -18,7 +18,8 @@ use std::sync::Arc;
 /// A polynomial in Y, so far as its degrees were given, as the product p * u of a polynomial p,
 /// monic of degree k in Y, and a unit u with no power of Y above q.
 ///
-/// Row r of a factor has its parts of degree r, and place j of a row belongs to Y^j.
+/// p = Y^k + a_(k-1) Y^(k-1) + .. + a_0 and u = w_0 + .. + w_q Y^q; row r of p has the parts a_i(r)
+/// of degree r, and place i of it belongs to Y^i; likewise row r of u has the w_j(r).
 #[derive(Drop)]
 pub struct Prep {
     alloc: Global,
@@ -63,7 +64,8 @@ impl Prep {
     ghost use Rattle.parts.specs.Series.{constant_of};
     ghost use Rattle.prepare.specs.Calls.{IsLowest, HasNoneBelow, IsWithoutInverse, Begins, Adds};
 
-    /// Prepares degree 0. `row0[j]` is the part of degree 0 of the coefficient of Y^j.
+    /// Prepares degree 0: p is Y^k there, and w_j(0) = b_(k+j)(0). `row0[l]` is b_l(0), the part of
+    /// degree 0 of the coefficient of Y^l.
     pub fn begin(
         alloc: Global,
         ring: Ring,
@@ -97,7 +99,8 @@ impl Prep {
         Ok(prep)
     }
 
-    /// The preparation of degree 0, once its row is known to have one.
+    /// The preparation of degree 0, once its row is known to have one: a_i(0) = 0 and
+    /// w_j(0) = b_(k+j)(0). `inverse` is w_0(0)^-1.
     fn of_row(
         alloc: Global,
         ring: Ring,
@@ -130,7 +133,9 @@ impl Prep {
         })
     }
 
-    /// Adds the next degree. `row[j]` is the part of that degree of the coefficient of Y^j.
+    /// Adds the next degree, r, by the recurrences ('Weierstrass' and 'BM21' in docs/GLOSSARY.md).
+    /// `row[l]` is b_l(r), the part of that degree of the coefficient of Y^l. Each of the k + q + 1
+    /// new parts takes at most k * r products of parts.
     pub fn step(&mut self, row: &[Arc<Part>], tally: &mut Tally) -> Result<(), OutOfMemory>
         requires row { IsRowOfParts self.old.ring (self.old.k + self.old.q) (degrees_of self.old)
             (parts_of row.now) }

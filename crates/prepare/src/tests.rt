@@ -1,6 +1,8 @@
 //! Values by hand, each refusal once, and a count.
-ghost use Rattle.std.specs.Prelude.{◌≡◌, ◌-◌, ◌<◌, ◌≤◌, length, IfOk};
+ghost use Rattle.std.specs.Prelude.{◌≡◌, ◌-◌, ◌<◌, ◌≤◌, ◌∷◌, [], length, IfOk, OnOk};
 ghost use Rattle.parts.specs.PartValue.{IsPartOf};
+ghost use Rattle.parts.specs.Rings.{weights_of};
+ghost use Rattle.prepare.specs.PrepValue.{degrees_of};
 ghost use Rattle.parts.specs.RowsOfParts.{parts_of, IsRowOfParts};
 
 use crate::{Prep, PrepError, Tally};
@@ -32,12 +34,22 @@ fn row(
     Ok(row)
 }
 
+/// The one variable of a ring, of weight 1.
+fn only_variable(alloc: Global, ring: Ring) -> Result<Part, OutOfMemory>
+    requires { weights_of ring ≡ 1 ∷ [] }
+    ensures degree { IfOk result (λ p. p.degree ≡ 1) }
+    ensures part { IfOk result (IsPartOf ring) }
+{
+    Part::variable(alloc, ring, 0)
+}
+
 /// The preparation of 20 * Y + Y^2 + x * (10 + Y) at k = 1, up to degree 2.
 fn prepare_twice(alloc: Global, ring: Ring, tally: &mut Tally) -> Result<Prep, PrepError>
-    requires { tally.old ≡ 0 }
+    requires none { tally.old ≡ 0 }
+    requires weights { weights_of ring ≡ 1 ∷ [] }
 {
     let one = Part::constant(alloc, ring, 1)?;
-    let x = Part::variable(alloc, ring, 0)?;
+    let x = only_variable(alloc, ring)?;
     let square = product(alloc, ring, &x, &x)?;
     let row_0 = row(alloc, ring, &one, &[0, 20, 1])?;
     let mut prep = Prep::begin(alloc, ring, 1, &row_0, tally)?;
@@ -87,6 +99,46 @@ fn two_steps_are_taken(rt: HostRuntime) -> Result<(), Fail> {
             "u at {r}"
         );
     }
+    Ok(())
+}
+
+/// The preparation of Y^2 + Y + x at k = 1, up to degree 4095.
+fn prepare_long(alloc: Global, ring: Ring, tally: &mut Tally) -> Result<Prep, PrepError>
+    requires none { tally.old ≡ 0 }
+    requires weights { weights_of ring ≡ 1 ∷ [] }
+    ensures degrees { IfOk result (λ prep. degrees_of prep ≡ 4096) }
+    ensures ticks { OnOk result (tally.new ≡ 4096) }
+{
+    let one = Part::constant(alloc, ring, 1)?;
+    let row_0 = row(alloc, ring, &one, &[0, 1, 1])?;
+    let mut prep = Prep::begin(alloc, ring, 1, &row_0, tally)?;
+    let x = only_variable(alloc, ring)?;
+    let row_1 = row(alloc, ring, &x, &[1, 0, 0])?;
+    prep.step(&row_1, tally)?;
+    for r in 2..4096_u32 {
+        let zero = Part::zero(alloc, r);
+        let next = row(alloc, ring, &zero, &[0, 0, 0])?;
+        prep.step(&next, tally)?;
+    }
+    Ok(prep)
+}
+
+// With p = Y + a and u = Y + 1 - a the part of a of degree r is the Catalan number r - 1 times x^r.
+// The Catalan number 4094 leaves 982387647.
+#[test]
+fn the_greatest_degree_is_reached(rt: HostRuntime) -> Result<(), Fail> {
+    let alloc = rt.alloc();
+    let ring = Ring::new(Modulus::new(998244353)?, 1);
+    let mut tally = Tally::new();
+    let prepared = prepare_long(alloc, ring, &mut tally);
+    assert_eq!(rt; tally.count(), 4096);
+    tally.finish();
+    let prep = prepared?;
+    assert_eq!(rt; prep.degrees(), 4096);
+    let last = coefficients(alloc, prep.row_p(4095))?;
+    assert_eq!(rt; last.as_slice(), [982387647, 0].as_slice());
+    let last = coefficients(alloc, prep.row_u(4095))?;
+    assert_eq!(rt; last.as_slice(), [15856706, 0].as_slice());
     Ok(())
 }
 

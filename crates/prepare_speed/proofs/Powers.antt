@@ -1,11 +1,10 @@
--- Lists of powers that grow, and rows that do.
+-- Lists of powers that grow.
 use Rattle.std.proofs.Common.{◌≡◌, ℕ, ◌<◌, List, [], ◌∷◌, ◌++◌, length, get_or, sym, ◌∙◌, ap, subst, arith}
 use Rattle.std.proofs.lemmas.Bool.{cases_lt}
 use Rattle.std.proofs.lemmas.List.{get_or_append_left, length_push}
 use Rattle.std.proofs.Math.Seq.{get_or-append_seam}
 use Rattle.std.proofs.Common.{inl, inr}
 use Rattle.parts.specs.PartValue.{PartValue, IsPartOf}
-use Rattle.parts.specs.RowsOfParts.{IsRowOfParts, AreRowsOfParts}
 use Rattle.parts.specs.declared.rings.Ring.{Ring}
 use Rattle.prepare_speed.specs.Prepared.{ArePowers}
 
@@ -20,18 +19,6 @@ powers_more ring xs x are degree part k d lt = elim (cases_lt k (length xs)) as
           let end : length xs ≡ k = omega (arith, length_push xs x) in
           subst (λ (p : PartValue). (p.degree ≡ k) × IsPartOf ring p)
           (sym (get_or-append_seam xs x [] d) ∙ ap (λ n. get_or (xs ++ x ∷ []) n d) end) (degree ∙ end, part)
-    ]
-
--- one row more
-pub rows_more : (ring : Ring) (K : ℕ) (rows : List (List PartValue)) (row : List PartValue)
-    → AreRowsOfParts ring K rows → IsRowOfParts ring K (length rows) row → AreRowsOfParts ring K (rows ++ row ∷ [])
-rows_more ring K rows row are is r lt = elim (cases_lt r (length rows)) as
-    (λ _. IsRowOfParts ring K r (get_or (rows ++ row ∷ []) r [])) [
-      | inl low ↦ subst (IsRowOfParts ring K r) (sym (get_or_append_left rows (row ∷ []) [] r low)) (are r low)
-      | inr high ↦
-          let end : length rows ≡ r = omega (arith, length_push rows row) in
-          subst (λ n. IsRowOfParts ring K n (get_or (rows ++ row ∷ []) n [])) end
-          (subst (IsRowOfParts ring K (length rows)) (sym (get_or-append_seam rows row [] [])) is)
     ]
 
 -- a part that is read

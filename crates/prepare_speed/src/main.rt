@@ -3,8 +3,8 @@
 
 mod rows;
 
-ghost use Rattle.std.specs.Prelude.{◌≡◌, ◌+◌, ◌<◌, ◌≤◌, length, IfOk, IfSome};
-ghost use Rattle.parts.specs.Rings.{variables_of};
+ghost use Rattle.std.specs.Prelude.{◌≡◌, ◌+◌, ◌*◌, ◌^◌, ◌<◌, ◌≤◌, ◌∷◌, [], length, IfOk, IfSome, OnOk};
+ghost use Rattle.parts.specs.Rings.{variables_of, weights_of};
 ghost use Rattle.parts.specs.RowsOfParts.{parts_in, AreRowsOfParts};
 ghost use Rattle.prepare.specs.PrepValue.{degrees_of};
 ghost use Rattle.prepare_speed.specs.Prepared.{IsPreparationOf};
@@ -26,7 +26,7 @@ struct Work {
     times: u32,
 }
 
-/// The preparation of the polynomial that has these rows.
+/// The preparation of the polynomial that has these rows. It takes a step for each row.
 fn prepared(
     alloc: Global,
     ring: Ring,
@@ -36,8 +36,10 @@ fn prepared(
     requires some { 1 ≤ length rows.now }
     requires permitted { length rows.now ≤ 4096 }
     requires rows { AreRowsOfParts ring 8 (parts_in rows.now) }
-    requires tally { tally.old ≡ 0 }
-    ensures { IfOk result (IsPreparationOf ring (parts_in rows.now) (length rows.now)) }
+    requires room { tally.old ≤ 2 ^ 62 }
+    ensures prepared { IfOk result
+        (IsPreparationOf ring (parts_in rows.now) (length rows.now)) }
+    ensures steps { OnOk result (tally.new ≡ tally.old + length rows.now) }
 {
     let mut prep = Prep::begin(alloc, ring, 2, &rows[0], tally)?;
     for r in 1..rows.len() {
@@ -46,30 +48,22 @@ fn prepared(
     Ok(prep)
 }
 
-/// The preparation with its own count of steps.
-fn prepared_once(alloc: Global, ring: Ring, rows: &[Vec<Arc<Part>>]) -> Result<Prep, PrepError>
-    requires some { 1 ≤ length rows.now }
-    requires permitted { length rows.now ≤ 4096 }
-    requires rows { AreRowsOfParts ring 8 (parts_in rows.now) }
-    ensures { IfOk result (IsPreparationOf ring (parts_in rows.now) (length rows.now)) }
-{
-    let mut tally = Tally::new();
-    let prep = prepared(alloc, ring, rows, &mut tally);
-    tally.finish();
-    prep
-}
-
-/// The preparation of the rows that the words ask for, made as often as they say.
-fn answer(alloc: Global, work: &Work) -> Result<Prep, PrepError>
+/// The preparation of the rows that the words ask for, made as often as they say: each time takes a
+/// step for each row.
+fn answer(alloc: Global, work: &Work, tally: &mut Tally) -> Result<Prep, PrepError>
     requires two { variables_of work.now.ring ≡ 2 }
+    requires weights { weights_of work.now.ring ≡ 1 ∷ 1 ∷ [] }
     requires low { work.now.degree ≤ 4095 }
+    requires some { 1 ≤ work.now.times }
+    requires none { tally.old ≡ 0 }
     ensures ring { IfOk result (λ prep. prep.ring ≡ work.now.ring) }
     ensures degrees { IfOk result (λ prep. degrees_of prep ≡ work.now.degree + 1) }
+    ensures steps { OnOk result (tally.new ≡ work.now.times * (work.now.degree + 1)) }
 {
     let rows = rows_up_to(alloc, work.ring, work.degree)?;
-    let mut last = prepared_once(alloc, work.ring, &rows)?;
+    let mut last = prepared(alloc, work.ring, &rows, tally)?;
     for i in 1..work.times {
-        last = prepared_once(alloc, work.ring, &rows)?;
+        last = prepared(alloc, work.ring, &rows, tally)?;
     }
     Ok(last)
 }
@@ -89,7 +83,9 @@ fn checksum(modulus: Modulus, before: u64, row: &[Arc<Part>]) -> u64 {
 /// The work that the words ask for: `DEGREE MODULUS TIMES`.
 fn read_words(words: &[String]) -> Option<Work>
     ensures two { IfSome result (λ work. variables_of work.ring ≡ 2) }
+    ensures weights { IfSome result (λ work. weights_of work.ring ≡ 1 ∷ 1 ∷ []) }
     ensures low { IfSome result (λ work. work.degree ≤ 4095) }
+    ensures some { IfSome result (λ work. 1 ≤ work.times) }
 {
     let [degree, modulus, times] = words else {
         return None;
@@ -116,7 +112,10 @@ fn main(rt: HostRuntime) -> std::io::Result<ExitCode> {
         println!(rt; "usage: prepare_speed DEGREE MODULUS TIMES")?;
         return Ok(ExitCode::from(2));
     };
-    let prep = match answer(rt.alloc(), &work) {
+    let mut tally = Tally::new();
+    let prepared = answer(rt.alloc(), &work, &mut tally);
+    tally.finish();
+    let prep = match prepared {
         Ok(prep) => prep,
         Err(error) => {
             println!(rt; "{error}")?;

@@ -1,7 +1,7 @@
 //! Rows with all monomials, to be prepared.
-ghost use Rattle.std.specs.Prelude.{◌≡◌, ◌+◌, ◌<◌, ◌≤◌, length, IfOk};
+ghost use Rattle.std.specs.Prelude.{◌≡◌, ◌+◌, ◌<◌, ◌≤◌, ◌∷◌, [], length, slice_index, IfOk};
 ghost use Rattle.parts.specs.PartValue.{IsPartOf};
-ghost use Rattle.parts.specs.Rings.{modulus_of, variables_of};
+ghost use Rattle.parts.specs.Rings.{modulus_of, variables_of, weights_of};
 ghost use Rattle.parts.specs.RowsOfParts.{parts_of, parts_in, IsRowOfParts, AreRowsOfParts};
 ghost use Rattle.prepare_speed.specs.Prepared.{ArePowers};
 
@@ -22,6 +22,7 @@ struct Powers<'a> {
 /// The powers of variable i from 0 up to a degree.
 fn powers_of(alloc: Global, ring: Ring, i: u32, degree: u32) -> Result<Vec<Part>, OutOfMemory>
     requires variable { i < variables_of ring }
+    requires weight { slice_index (weights_of ring) i ≡ 1 }
     requires degree { degree ≤ 4095 }
     ensures count { IfOk result (λ powers. length powers.items ≡ degree + 1) }
     ensures powers { IfOk result (λ powers. ArePowers ring powers.items) }
@@ -100,13 +101,14 @@ fn row_of(powers: &Powers, state: &mut u64, degree: u32) -> Result<Vec<Arc<Part>
     Ok(row)
 }
 
-/// The rows of the degrees from 0 on, in a ring of two variables.
+/// The rows of the degrees from 0 on, in a ring of two variables of weight 1.
 pub fn rows_up_to(
     alloc: Global,
     ring: Ring,
     degree: u32,
 ) -> Result<Vec<Vec<Arc<Part>>>, OutOfMemory>
     requires two { variables_of ring ≡ 2 }
+    requires weights { weights_of ring ≡ 1 ∷ 1 ∷ [] }
     requires low { degree ≤ 4095 }
     ensures count { IfOk result (λ rows. length rows.items ≡ degree + 1) }
     ensures rows { IfOk result (λ rows. AreRowsOfParts ring 8 (parts_in rows.items)) }

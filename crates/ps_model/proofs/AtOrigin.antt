@@ -14,7 +14,8 @@ use Rattle.ps_model.specs.Bounds.{IsUnit}
 use Rattle.ps_model.specs.SeriesRing.{SeriesRing, ring}
 use Rattle.ps_model.specs.Factors.{root_power, root_powers}
 use Rattle.ps_model.specs.Notation.{coefficient}
-use Rattle.ps_model.specs.Job.{job_ring, IsDivisor, Fails, AreAtOrigin, DifferAt}
+use Rattle.ps_model.specs.Divisions.{IsDivisor, Fails}
+use Rattle.ps_model.specs.Job.{job_ring, AreAtOrigin, DifferAt}
 use Rattle.ps_model.proofs.Coefficients.{at_key, coefficient-polynomial}
 use Rattle.ps_model.proofs.FormalSums.{normal, polynomial-normal, same_sums, one_listed, monomial_listed, sum_listed}
 use Rattle.ps_model.proofs.FormalSums.{product_listed}
@@ -87,8 +88,8 @@ module _ (job : JobData) where
   abbrev pub divisor_at : Expr → ℕ
   divisor_at d = number_at S (evaluated S 0 d) (y_key S.variables 0)
 
-  pub fails : (k : ℕ) (d : Expr) → T (undivided d) → IsDivisor job.expr k d → (IsUnit job.modulus (divisor_at d) → ⊥)
-      → Fails job k (divisor_at d)
+  pub fails : (k : ℕ) (d : Expr) → T (undivided d) → IsDivisor job.expr k d → (IsUnit S.modulus (divisor_at d) → ⊥)
+      → Fails S job.expr k (divisor_at d)
   fails k d h divisor not_unit = (
     d,
     divisor,

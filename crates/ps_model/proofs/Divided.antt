@@ -13,7 +13,7 @@ use Rattle.ps_model.specs.Tree.{has_y}
 use Rattle.ps_model.specs.Value.{IsValue}
 use Rattle.ps_model.specs.Job.{series_ring}
 use Rattle.ps_model.specs.Examples.{x, y, number, added, subtracted, divided, raised, two_y_squared, geometric}
-use Rattle.ps_model.specs.Examples.{halved, key}
+use Rattle.ps_model.specs.Examples.{halved, key, ring_modulo}
 use Rattle.ps_model.proofs.Coefficients.{coefficient-polynomial}
 use Rattle.ps_model.proofs.FormalSums.{normal, zero_listed}
 use Rattle.ps_model.proofs.Evaluated.{undivided, times, cut, signed, evaluated, is_value, of_sum}
@@ -46,7 +46,7 @@ module _ (S : SeriesRing) (D : ℕ) where
 
 -- the examples are modulo 7
 abbrev S : SeriesRing
-S = series_ring 7
+S = ring_modulo 7
 
 -- 1 + x + x^2
 abbrev pub series : List (Key S.variables × ℕ)

@@ -12,7 +12,7 @@ use Rattle.ps_model.specs.Factors.{total_times, IsApart, AreApart}
 use Rattle.ps_model.specs.Tree.{formal_degree}
 use Rattle.ps_model.specs.Job.{job_ring, series_ring, DegreeTooLarge, DegreeMismatch, NotApart, IsPairTooNear}
 use Rattle.ps_model.specs.Job.{IsValidJob, told_count}
-use Rattle.ps_model.specs.AcceptedJob.{IsAcceptedRoot, IsAccepted}
+use Rattle.ps_model.specs.AcceptedJob.{IsLawfulJob, IsAccepted}
 use Rattle.ps_model.proofs.UnitsDecided.{number_stable, unit_decided, gcd_exists}
 
 -- where a job has no fault, its formal degree is the sum of the multiplicities
@@ -28,7 +28,7 @@ valid_small job valid = at_most (formal_degree job.expr)
     at_most : (n : ℕ) → (32 < n → ⊥) → n ≤ 32
     at_most n h = omega arith
 
--- the modulus of an accepted job's ring is the job's
+-- the modulus of a job's ring is the job's
 pub same_modulus : (job : JobData) → 2 ≤ job.modulus → (job_ring job).modulus ≡ job.modulus
 unfolding series_ring
 same_modulus job h = at_least job.modulus h
@@ -97,19 +97,28 @@ module _ (m : ℕ) where
   apart_from r [] h = tt
   apart_from r (s ∷ ss) h = (h 0 s refl, apart_from r ss (λ j t at. h (suc j) t at))
 
-  are_apart : (roots : List Root) → All (IsAcceptedRoot m) roots → AreUnits roots → AreApart m roots
+  are_apart : (roots : List Root) → All (λ r. r.value < m) roots → AreUnits roots → AreApart m roots
   are_apart [] residues units = tt
   are_apart (r ∷ rs) residues units = (
-    (residues 0 r (omega arith)).residue,
+    residues 0 r (omega arith),
     apart_from r rs (λ j s at. units 0 (suc j) r s (omega arith) refl at),
     are_apart rs (λ k d lt. residues (suc k) d (omega arith))
         (λ i j a b lt at at'. units (suc i) (suc j) a b (omega arith) at at'),
   )
 
--- the roots of an accepted job are apart
-pub accepted_apart : (job : JobData) → IsAccepted job → AreApart (job_ring job).modulus job.roots
-accepted_apart job ok = subst (λ m. AreApart m job.roots) (sym (same_modulus job ok.modulus.0))
-    (are_apart job.modulus job.roots ok.roots units)
+-- an accepted job is lawful
+pub accepted_lawful : (job : JobData) → IsAccepted job → IsLawfulJob job
+accepted_lawful job ok = record {
+  modulus = ok.modulus.0;
+  tree = ok.tree;
+  residues = λ i d lt. (ok.roots i d lt).residue;
+  valid = ok.valid;
+}
+
+-- the roots of a lawful job are apart
+pub lawful_apart : (job : JobData) → IsLawfulJob job → AreApart (job_ring job).modulus job.roots
+lawful_apart job ok = subst (λ m. AreApart m job.roots) (sym (same_modulus job ok.modulus))
+    (are_apart job.modulus job.roots ok.residues units)
   where
     units : (i j : ℕ) (r s : Root) → i < j → slice_get job.roots i ≡ Some r → slice_get job.roots j ≡ Some s
         → IsUnit job.modulus ((job.modulus - s.value) + r.value)

@@ -1,24 +1,24 @@
--- An accepted job: its tree divides by units, its value is factorable by the roots, and it has exactly one list of
+-- A lawful job: its tree divides by units, its value is factorable by the roots, and it has exactly one list of
 -- factors.
-use Rattle.std.proofs.Common.{◌≡◌, ℕ, zero, suc, ◌-◌, ◌<◌, ◌≤◌, true, false, List, [], ◌∷◌, refl, sym, ◌∙◌, ap}
+use Rattle.std.proofs.Common.{◌≡◌, ℕ, zero, suc, ◌-◌, ◌<◌, ◌≤◌, Bool, true, false, List, [], ◌∷◌, refl, sym, ◌∙◌, ap}
 use Rattle.std.proofs.Common.{subst, arith}
 use Rattle.std.specs.Prelude.{◌==◌}
 use Rattle.std.proofs.lemmas.Bool.{eqb-true, eqb-false}
+use Rattle.ps_model.specs.declared.expr.Expr.{Expr}
 use Rattle.ps_model.specs.declared.job.JobData.{JobData}
 use Rattle.ps_model.specs.declared.job.Root.{Root}
 use Rattle.ps_model.specs.Ring.{Ring}
-use Rattle.ps_model.specs.Keys.{y_key}
 use Rattle.ps_model.specs.Polynomial.{Polynomial, coefficient}
 use Rattle.ps_model.specs.Truncation.{truncated}
-use Rattle.ps_model.specs.Bounds.{IsMonic, IsUnit, ExactlyOne}
+use Rattle.ps_model.specs.Bounds.{IsMonic, ExactlyOne}
 use Rattle.ps_model.specs.SeriesRing.{SeriesRing, ring, degree, Poly}
 use Rattle.ps_model.specs.Factors.{total_times, product_of, root_power, root_powers, IsFactorable, IsFactorList}
 use Rattle.ps_model.specs.Tree.{formal_degree, has_y}
-use Rattle.ps_model.specs.Value.{IsValue}
-use Rattle.ps_model.specs.Job.{job_ring, DividesByY, NotMonic, NotAUnit, RootsMismatch, IsLeast, IsByY}
-use Rattle.ps_model.specs.Job.{Fails, DifferAt, IsValidJob, IsFactors}
-use Rattle.ps_model.specs.Divisions.{DividesByUnits}
-use Rattle.ps_model.specs.AcceptedJob.{IsAccepted}
+use Rattle.ps_model.specs.Value.{variable, IsValue}
+use Rattle.ps_model.specs.Job.{job_ring, DividesByY, NotMonic, NotAUnit, RootsMismatch, IsLeast}
+use Rattle.ps_model.specs.Job.{DifferAt, IsValidJob, IsFactors}
+use Rattle.ps_model.specs.Divisions.{IsDivisor, IsByY, Fails, DividesByUnits}
+use Rattle.ps_model.specs.AcceptedJob.{IsLawfulJob}
 use Rattle.ps_model.proofs.Coefficients.{same_coefficients}
 use Rattle.ps_model.proofs.RingLaws.{one-product}
 use Rattle.ps_model.proofs.Truncations.{truncated-zero}
@@ -28,11 +28,15 @@ use Rattle.ps_model.proofs.Origin.{key_is-y, coefficient-above}
 use Rattle.ps_model.proofs.Factors.{truncated-again, factors}
 use Rattle.ps_model.proofs.UnitsDecided.{number_stable, polynomial_stable, unit_stable, gcd_exists}
 use Rattle.ps_model.proofs.TopTerms.{top-monic}
-use Rattle.ps_model.proofs.TreeValues.{value_within, value-truncated}
+use Rattle.ps_model.proofs.TreeValues.{variable_flat, value_flat, value_within, value-truncated}
 use Rattle.ps_model.proofs.TreeLeads.{value_powers, value_top}
 use Rattle.ps_model.proofs.TreeDivisions.{tree_value}
-use Rattle.ps_model.proofs.JobRoots.{valid_degree, same_modulus, accepted_apart}
+use Rattle.ps_model.proofs.JobRoots.{valid_degree, lawful_apart}
 use Rattle.ps_model.proofs.JobFactors.{same_factors}
+
+not_true : (b : Bool) → (b ≡ true → ⊥) → b ≡ false
+not_true true h = absurd (h refl)
+not_true false h = refl
 
 -- where nothing is the least, nothing is there
 module _ (P : ℕ → Type 0) (none : (k : ℕ) → IsLeast P k → ⊥) where
@@ -83,8 +87,8 @@ module _ (job : JobData) where
     valid_without_y = no_least (IsByY job.expr) (λ k least. valid (DividesByY k) least)
 
     -- no division fails
-    pub valid_divisions : (k c : ℕ) → Fails job k c → ⊥
-    valid_divisions k c fails = no_least (λ k. (c : ℕ) × Fails job k c)
+    pub valid_divisions : (k c : ℕ) → Fails S job.expr k c → ⊥
+    valid_divisions k c fails = no_least (λ k. (c : ℕ) × Fails S job.expr k c)
         (λ k least. let gcd = gcd_exists least.0.0 job.modulus in
         valid (NotAUnit k least.0.0 gcd.0) (least.0.1, least, gcd.1)) k (c, fails)
 
@@ -93,43 +97,50 @@ module _ (job : JobData) where
     valid_agrees = no_least (DifferAt job) (λ p least. valid (RootsMismatch p least.0.0 least.0.1)
         (least.0.2, least))
 
-  module _ (ok : IsAccepted job) where
-    pub accepted_divisions : DividesByUnits S job.expr
-    accepted_divisions = record {
-      without_y = λ k d divisor. not_true (has_y d) (λ e. valid_without_y ok.valid k (d, divisor, e));
-      units = λ k d v divisor is. subst (λ m. IsUnit m (coefficient (ring S) v (y_key S.variables 0)))
-          (sym (same_modulus job ok.modulus.0)) (unit_stable job.modulus _
-          (λ not_unit. valid_divisions ok.valid k _ (d, divisor, v, is, refl, not_unit)));
+  module _ (ok : IsLawfulJob job) where
+    lawful_without_y : (k : ℕ) (d : Expr) → IsDivisor job.expr k d → has_y d ≡ false
+    lawful_without_y k d divisor = not_true (has_y d) (λ e. valid_without_y ok.valid k (d, divisor, e))
+
+    pub lawful_divisions : DividesByUnits S (variable S) job.expr
+    lawful_divisions = record {
+      without_y = lawful_without_y;
+      no_power = λ k D d v divisor is. value_flat S (variable S) (variable_flat S) D d v
+          (lawful_without_y k d divisor) is;
+      units = λ k d v divisor is. unit_stable S.modulus _
+          (λ not_unit. valid_divisions ok.valid k _ (d, divisor, v, is, refl, not_unit));
     }
-      where
-        not_true : (b : _) → (b ≡ true → ⊥) → b ≡ false
-        not_true true h = absurd (h refl)
-        not_true false h = refl
 
     module _ (D : ℕ) (F : Poly S) (is : IsValue S D job.expr F) where
       -- the value is monic
-      pub accepted_monic : IsMonic (total_times job.roots) F
-      accepted_monic = polynomial_stable (ring S) _ _ (λ ne. ok.valid NotMonic
+      pub lawful_monic : IsMonic (total_times job.roots) F
+      lawful_monic = polynomial_stable (ring S) _ _ (λ ne. ok.valid NotMonic
           (λ lead. ne (subst (λ k. IsMonic k F) (valid_degree job ok.valid)
-          (top-monic (ring S) (formal_degree job.expr) F (value_powers S D job.n job.expr F ok.tree is)
-          (value_top S D job.n job.expr 1 F ok.tree lead is)))))
+          (top-monic (ring S) (formal_degree job.expr) F (value_powers S (variable S)
+          (variable_flat S) D job.n job.expr F ok.tree is)
+          (value_top S (variable S) (variable_flat S) D job.n job.expr 1 F ok.tree lead is)))))
 
       -- and at the origin the product of the root powers
-      pub accepted_origin : truncated (ring S) (degree S) 0 F ≡ root_powers {R = ring S} job.roots
-      accepted_origin = same_at_origin (ring S) _ _ (truncated-again (ring S) (degree S) 0 F)
+      pub lawful_origin : truncated (ring S) (degree S) 0 F ≡ root_powers {R = ring S} job.roots
+      lawful_origin = same_at_origin (ring S) _ _ (truncated-again (ring S) (degree S) 0 F)
           (root_powers_flat (ring S) job.roots)
           (λ j. number_stable _ _ (λ ne. valid_agrees ok.valid j (
             _,
             _,
-            (truncated (ring S) (degree S) 0 F, value-truncated S 0 D (omega arith) job.expr F is, refl, refl),
+            (
+              truncated (ring S) (degree S) 0 F,
+              value-truncated S (variable S) 0 D
+                  (omega arith) job.expr F is,
+              refl,
+              refl,
+            ),
             ne,
           )))
 
-      pub accepted_factorable : IsFactorable F job.roots
-      accepted_factorable = record {
-        monic = accepted_monic;
-        at_origin = accepted_origin;
-        apart = accepted_apart job ok;
+      pub lawful_factorable : IsFactorable F job.roots
+      lawful_factorable = record {
+        monic = lawful_monic;
+        at_origin = lawful_origin;
+        apart = lawful_apart job ok;
       }
 
       -- a list of factors of the value is one of the job
@@ -140,15 +151,15 @@ module _ (job : JobData) where
         are_factors = record {
           each = list.each;
           product_is = ap (truncated (ring S) (degree S) D) (one-product (ring S) (product_of fs)) ∙ list.product_is
-              ∙ value_within S D job.expr F is;
+              ∙ value_within S (variable S) D job.expr F is;
         };
       }
 
-    -- an accepted job has exactly one list of factors
-    pub accepted_factors : (D : ℕ) → ExactlyOne (IsFactors job D)
-    accepted_factors D =
-        let v = tree_value S job.n D job.expr ok.tree accepted_divisions in
-        let fs = factors (ring S) D job.roots v.one_value (accepted_factorable D v.one_value v.meets) in
+    -- a lawful job has exactly one list of factors
+    pub lawful_factors : (D : ℕ) → ExactlyOne (IsFactors job D)
+    lawful_factors D =
+        let v = tree_value S (variable S) job.n D job.expr ok.tree lawful_divisions in
+        let fs = factors (ring S) D job.roots v.one_value (lawful_factorable D v.one_value v.meets) in
         record {
           one_value = fs.one_value;
           meets = list_factors D v.one_value v.meets fs.one_value fs.meets;

@@ -1,6 +1,7 @@
 pub mod Totals
 pub mod Coefficients
 pub mod Values
+pub mod WrittenTerms
 pub mod RingLaws
 pub mod KeptTerms
 pub mod Truncations
@@ -56,6 +57,8 @@ pub mod FactorSums
 pub mod ShiftSums
 pub mod Divided
 pub mod PowerBounds
+pub mod TreeNames
+pub mod Divisors
 pub mod TreeValues
 pub mod UnitsDecided
 pub mod JobRoots
@@ -63,4 +66,5 @@ pub mod JobFactors
 pub mod TopTerms
 pub mod TreeLeads
 pub mod TreeDivisions
+pub mod GivenValues
 pub mod JobValues

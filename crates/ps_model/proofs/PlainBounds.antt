@@ -243,14 +243,22 @@ pub greatest_key_within : (b : Key 8) (p : Map) → HasKeysWithin b p → IsWith
 unfolding greatest_key
 greatest_key_within b p h = greatest_at_most b (entries p) (entries_within b p h)
 
-pub two_in_range : (b : Key 8) (p q : Map) → HasKeysWithin b p → HasKeysWithin b q →
-    IsInRange (add_keys 8 b (add_keys 8 b (y_key 8 0)))
-    → IsInRange (total_powers (p ∷ q ∷ []))
-two_in_range b p q h g fits = subst IsInRange (sym (total_powers-cons p (q ∷ []) ∙ ap (add_keys 8 (greatest_key p))
-    (total_powers-cons q [] ∙ ap (add_keys 8 (greatest_key q)) total_powers-nil)))
-    (in_range_within _ (add_keys 8 b (add_keys 8 b (y_key 8 0)))
-    (within-add (greatest_key p) _ b _ (greatest_key_within b p h)
-    (within-add (greatest_key q) (y_key 8 0) b (y_key 8 0) (greatest_key_within b q g) (within-refl (y_key 8 0)))) fits)
+-- the key b once for each of fs
+abbrev pub times_each : Key 8 → List Map → Key 8
+times_each b [] = y_key 8 0
+times_each b (f ∷ fs) = add_keys 8 b (times_each b fs)
+
+total_powers-within : (b : Key 8) (fs : List Map) → All (HasKeysWithin b) fs →
+    IsWithin (total_powers fs) (times_each b fs)
+total_powers-within b [] h = subst (λ k. IsWithin k (y_key 8 0)) (sym total_powers-nil) (within-refl (y_key 8 0))
+total_powers-within b (f ∷ fs) h = subst (λ k. IsWithin k (times_each b (f ∷ fs))) (sym (total_powers-cons f fs))
+    (within-add (greatest_key f) (total_powers fs) b (times_each b fs)
+    (greatest_key_within b f (All-head (HasKeysWithin b) f fs h))
+    (total_powers-within b fs (All-tail (HasKeysWithin b) f fs h)))
+
+pub all_in_range : (b : Key 8) (fs : List Map) → All (HasKeysWithin b) fs → IsInRange (times_each b fs)
+    → IsInRange (total_powers fs)
+all_in_range b fs h fits = in_range_within _ (times_each b fs) (total_powers-within b fs h) fits
 
 pub residues_from : (m : ℕ) (p : Map) → HasValuesBelow m p → HasResiduesBelow m p
 unfolding HasValuesBelow
@@ -279,24 +287,25 @@ values_empty m p some e k = subst (λ n. n < m)
 pub within_empty : (b : Key 8) (p : Map) → p ≡ empty → HasKeysWithin b p
 within_empty b p e = record { at = λ k c is. absurd (no_entry k c (ap (λ (q : Map). get q k) (sym e) ∙ is)) }
 
--- small powers: of the first variable and of Y up to 3
-pub small_in_range : IsInRange (add_keys 8 small_key small_key)
+-- small powers: of the first two variables and of Y up to 3
+small_powers : (k y : ℕ) → k < 2 ^ 16 → y < 2 ^ 32 → IsInRange (record { powers = (k, (k, no_powers 6)); y = y })
 unfolding IsInRange
-small_in_range = (
-  All-cons (λ v. v < 2 ^ 16) 6 (numbers 7 (no_powers 7)) (omega arith)
-      (numbers_none 7 (2 ^ 16) (omega arith)),
-  omega arith,
+small_powers k y small fits = (
+  All-cons (λ v. v < 2 ^ 16) k (numbers 7 (k, no_powers 6)) small
+      (All-cons (λ v. v < 2 ^ 16) k (numbers 6 (no_powers 6)) small (numbers_none 6 (2 ^ 16) (omega arith))),
+  fits,
 )
+
+pub small_in_range : IsInRange (add_keys 8 small_key small_key)
+small_in_range = small_powers 6 6 (omega arith) (omega arith)
 
 pub small_twice : IsInRange (add_keys 8 small_key (add_keys 8 small_key (y_key 8 0)))
-unfolding IsInRange
-small_twice = (
-  All-cons (λ v. v < 2 ^ 16) 6 (numbers 7 (no_powers 7)) (omega arith)
-      (numbers_none 7 (2 ^ 16) (omega arith)),
-  omega arith,
-)
+small_twice = small_powers 6 6 (omega arith) (omega arith)
 
-pub small_within : (x y : ℕ) → x ≤ 3 → y ≤ 3 → (k : Key 8) → k ≡ record { powers = (x, no_powers 7); y = y } →
-    IsWithin k small_key
-small_within x y h g k e =
-    subst (λ k. IsWithin k small_key) (sym e) (record { powers = (h, at_most-refl 7 (no_powers 7)); y = g })
+pub small_thrice : IsInRange (add_keys 8 small_key (add_keys 8 small_key (add_keys 8 small_key (y_key 8 0))))
+small_thrice = small_powers 9 9 (omega arith) (omega arith)
+
+pub small_within : (x z y : ℕ) → x ≤ 3 → z ≤ 3 → y ≤ 3 → (k : Key 8)
+    → k ≡ record { powers = (x, (z, no_powers 6)); y = y } → IsWithin k small_key
+small_within x z y h f g k e =
+    subst (λ k. IsWithin k small_key) (sym e) (record { powers = (h, (f, at_most-refl 6 (no_powers 6))); y = g })

@@ -35,7 +35,7 @@ use Rattle.ps_model.specs.Keys.{add_keys, y_key}
 use Rattle.ps_model.specs.SeriesRing.{ring, Poly}
 use Rattle.ps_model.specs.Notation.{power, product, linear}
 use Rattle.ps_model.specs.Job.{series_ring, job_ring, AreFactorsOf}
-use Rattle.ps_model.specs.PlainLists.{IsInRange, HasProductsInRange, total_degree, cut_map}
+use Rattle.ps_model.specs.PlainLists.{IsInRange, HasProductsInRange, plain_degree, cut_map}
 use Rattle.ps_model.specs.PlainPolynomial.{plain_polynomial, HasValuesBelow, greatest_key, total_powers}
 use Rattle.ps_model.specs.PlainPolynomial.{IsWithin, HasKeysWithin}
 use Rattle.ps_model.proofs.RingLaws.{one-product}
@@ -159,14 +159,15 @@ linear_within m c = collected_within (y_key 8 1) m ((y_key 8 1, 1) ∷ (y_key 8 
     (All-nil (λ (e : Key 8 × ℕ). IsWithin e.0 (y_key 8 1)))))
 
 pub record IsRootPower (m v i : ℕ) (p : Map) : Type 0 where
-  pub is : plain_polynomial m p ≡ power (linear {R = ring (series_ring m)} ((ring (series_ring m)).modulus - v)) i
+  pub is : (ws : List ℕ) →
+      plain_polynomial m ws p ≡ power (linear {R = ring (series_ring m ws)} ((ring (series_ring m ws)).modulus - v)) i
   pub within : HasKeysWithin (y_key 8 i) p
   pub residues : HasValuesBelow m p
 
 pub root_none : (m v : ℕ) → 2 ≤ m → (p : Map) → p ≡ collected (key_compare 8) m ((y_key 8 0, 1) ∷ []) →
     IsRootPower m v 0 p
 root_none m v two p e = record {
-  is = ap (plain_polynomial m) e ∙ one_polynomial m two;
+  is = λ ws. ap (plain_polynomial m ws) e ∙ one_polynomial m ws two;
   within = subst (HasKeysWithin (y_key 8 0)) (sym e) (one_within m);
   residues = subst (HasValuesBelow m) (sym e) (values_collected m two ((y_key 8 0, 1) ∷ []));
 }
@@ -182,8 +183,8 @@ pub root_more : (m v i : ℕ) → 2 ≤ m → (l p q : Map)
     → l ≡ collected (key_compare 8) m ((y_key 8 1, 1) ∷ (y_key 8 0, m - v) ∷ []) → IsRootPower m v i p
     → q ≡ product_maps (key_compare 8) (add_keys 8) m l p → IsRootPower m v (i + 1) q
 root_more m v i two l p q e h made = subst (λ j. IsRootPower m v j q) (sym (add-one i)) (record {
-  is = ap (plain_polynomial m) made ∙ product_polynomial m two l p
-      ∙ (λ j. product ((ap (plain_polynomial m) e ∙ linear_polynomial m two v) j) (h.is j));
+  is = λ ws. ap (plain_polynomial m ws) made ∙ product_polynomial m ws two l p
+      ∙ (λ j. product ((ap (plain_polynomial m ws) e ∙ linear_polynomial m ws two v) j) (h.is ws j));
   within = subst (HasKeysWithin (y_key 8 (suc i))) (sym made)
       (subst (λ k. HasKeysWithin k (product_maps (key_compare 8) (add_keys 8) m l p))
       (y_key-add 1 i ∙ ap (y_key 8) next)
@@ -197,38 +198,38 @@ root_more m v i two l p q e h made = subst (λ j. IsRootPower m v j q) (sym (add
     next = omega arith
 
 pub root_all : (m : ℕ) (r : Root) (i : ℕ) (p : Map) → i ≤ r.times → r.times ≤ i → IsRootPower m r.value i p
-    → plain_polynomial m p ≡ root_power r
-root_all m r i p le ge h =
-    h.is ∙ ap (power (linear {R = ring (series_ring m)} ((ring (series_ring m)).modulus - r.value))) same
+    → (ws : List ℕ) → plain_polynomial m ws p ≡ root_power r
+root_all m r i p le ge h ws =
+    h.is ws ∙ ap (power (linear {R = ring (series_ring m ws)} ((ring (series_ring m ws)).modulus - r.value))) same
   where
     same : i ≡ r.times
     same = omega arith
 
 -- the product of factors, one more at a time, from the last one on
-pub record IsProductOf (m d : ℕ) (fs : List Map) (p : Map) : Type 0 where
-  pub is : plain_polynomial m p ≡ truncated d (product_of (map (plain_polynomial m) fs))
+pub record IsProductOf (m : ℕ) (ws : List ℕ) (d : ℕ) (fs : List Map) (p : Map) : Type 0 where
+  pub is : plain_polynomial m ws p ≡ truncated d (product_of (map (plain_polynomial m ws) fs))
   pub within : HasKeysWithin (total_powers fs) p
   pub residues : HasValuesBelow m p
 
-product_none : (m d : ℕ) → 2 ≤ m → (one p : Map) → one ≡ collected (key_compare 8) m ((y_key 8 0, 1) ∷ []) →
-    p ≡ cut_map d one
-    → IsProductOf m d [] p
-product_none m d two one p e cut = record {
-  is = ap (plain_polynomial m) (cut ∙ ap (cut_map d) e)
-      ∙ cut_polynomial m d (collected (key_compare 8) m ((y_key 8 0, 1) ∷ [])) ∙
-      ap (truncated d) (one_polynomial m two);
+product_none : (m : ℕ) (ws : List ℕ) (d : ℕ) → 2 ≤ m → (one p : Map) → one ≡ collected (key_compare 8) m ((y_key 8 0, 1) ∷ []) →
+    p ≡ cut_map ws d one
+    → IsProductOf m ws d [] p
+product_none m ws d two one p e cut = record {
+  is = ap (plain_polynomial m ws) (cut ∙ ap (cut_map ws d) e)
+      ∙ cut_polynomial m ws d (collected (key_compare 8) m ((y_key 8 0, 1) ∷ [])) ∙
+      ap (truncated d) (one_polynomial m ws two);
   within = subst (λ k. HasKeysWithin k p) (sym total_powers-nil) (subst (HasKeysWithin (y_key 8 0)) (sym cut)
-      (retained_within (y_key 8 0) (λ k. nat_le (total_degree k) d) one
+      (retained_within (y_key 8 0) (λ k. nat_le (plain_degree ws k) d) one
       (subst (HasKeysWithin (y_key 8 0)) (sym e) (one_within m))));
-  residues = subst (HasValuesBelow m) (sym cut) (values_retained m two (λ k. nat_le (total_degree k) d) one
+  residues = subst (HasValuesBelow m) (sym cut) (values_retained m two (λ k. nat_le (plain_degree ws k) d) one
       (subst (HasValuesBelow m) (sym e) (values_collected m two ((y_key 8 0, 1) ∷ []))));
 }
 
-pub product_begun : (m d : ℕ) → 2 ≤ m → (fs : List Map) (one p : Map) →
+pub product_begun : (m : ℕ) (ws : List ℕ) (d : ℕ) → 2 ≤ m → (fs : List Map) (one p : Map) →
     one ≡ collected (key_compare 8) m ((y_key 8 0, 1) ∷ [])
-    → p ≡ cut_map d one → IsProductOf m d (drop (length fs) fs) p
-product_begun m d two fs one p e cut = subst (λ l. IsProductOf m d l p) (sym (drop_all (length fs) fs (omega arith)))
-    (product_none m d two one p e cut)
+    → p ≡ cut_map ws d one → IsProductOf m ws d (drop (length fs) fs) p
+product_begun m ws d two fs one p e cut = subst (λ l. IsProductOf m ws d l p) (sym (drop_all (length fs) fs (omega arith)))
+    (product_none m ws d two one p e cut)
 
 next_drop : (fs : List Map) (i : ℕ) (f : Map) → f ≡ get_or fs (i - 1) f → 0 < i → i ≤ length fs
     → drop (i - 1) fs ≡ f ∷ drop i fs
@@ -237,39 +238,39 @@ next_drop fs i f is some le = drop_more fs (i - 1) f (omega arith) ∙ (λ j. sy
     whole : (i - 1) + 1 ≡ i
     whole = omega arith
 
-pub product_fits : (m d : ℕ) (fs : List Map) (i : ℕ) (f p : Map) → f ≡ get_or fs (i - 1) f → 0 < i → i ≤ length fs
-    → IsInRange (total_powers fs) → IsProductOf m d (drop i fs) p → HasProductsInRange (entries f) (entries p)
-product_fits m d fs i f p is some le fits h = products_in_range (greatest_key f) (total_powers (drop i fs)) f p
+pub product_fits : (m : ℕ) (ws : List ℕ) (d : ℕ) (fs : List Map) (i : ℕ) (f p : Map) → f ≡ get_or fs (i - 1) f → 0 < i → i ≤ length fs
+    → IsInRange (total_powers fs) → IsProductOf m ws d (drop i fs) p → HasProductsInRange (entries f) (entries p)
+product_fits m ws d fs i f p is some le fits h = products_in_range (greatest_key f) (total_powers (drop i fs)) f p
     (greatest_within f) h.within
     (subst IsInRange (total_powers-cons f (drop i fs))
     (subst (λ l. IsInRange (total_powers l)) (next_drop fs i f is some le)
     (in_range_within (total_powers (drop (i - 1) fs)) (total_powers fs) (total_powers-drop (i - 1) fs) fits)))
 
-pub product_more : (m d : ℕ) → 2 ≤ m → (fs : List Map) (i : ℕ) (f p next q : Map) → f ≡ get_or fs (i - 1) f → 0 < i
-    → i ≤ length fs → IsProductOf m d (drop i fs) p → next ≡ product_maps (key_compare 8) (add_keys 8) m f p
-    → q ≡ cut_map d next → IsProductOf m d (drop (i - 1) fs) q
-product_more m d two fs i f p next q read some le h made cut = subst (λ l. IsProductOf m d l q)
+pub product_more : (m : ℕ) (ws : List ℕ) (d : ℕ) → 2 ≤ m → (fs : List Map) (i : ℕ) (f p next q : Map) → f ≡ get_or fs (i - 1) f → 0 < i
+    → i ≤ length fs → IsProductOf m ws d (drop i fs) p → next ≡ product_maps (key_compare 8) (add_keys 8) m f p
+    → q ≡ cut_map ws d next → IsProductOf m ws d (drop (i - 1) fs) q
+product_more m ws d two fs i f p next q read some le h made cut = subst (λ l. IsProductOf m ws d l q)
     (sym (next_drop fs i f read some le)) (record {
-      is = ap (plain_polynomial m) cut ∙ cut_polynomial m d next
-          ∙ ap (truncated d) (ap (plain_polynomial m) made ∙ product_polynomial m two f p
-          ∙ ap (product (plain_polynomial m f)) h.is)
-          ∙ sym (truncated-product_right (ring (series_ring m)) (ring (series_ring m)).degree
-          (ring (series_ring m)).degree_adds d
-          (plain_polynomial m f) (product_of (map (plain_polynomial m) (drop i fs))));
+      is = ap (plain_polynomial m ws) cut ∙ cut_polynomial m ws d next
+          ∙ ap (truncated d) (ap (plain_polynomial m ws) made ∙ product_polynomial m ws two f p
+          ∙ ap (product (plain_polynomial m ws f)) h.is)
+          ∙ sym (truncated-product_right (ring (series_ring m ws)) (ring (series_ring m ws)).degree
+          (ring (series_ring m ws)).degree_adds d
+          (plain_polynomial m ws f) (product_of (map (plain_polynomial m ws) (drop i fs))));
       within = subst (HasKeysWithin (total_powers (f ∷ drop i fs))) (sym cut)
-          (retained_within (total_powers (f ∷ drop i fs)) (λ k. nat_le (total_degree k) d) next
+          (retained_within (total_powers (f ∷ drop i fs)) (λ k. nat_le (plain_degree ws k) d) next
           (subst (HasKeysWithin (total_powers (f ∷ drop i fs))) (sym made)
           (subst (λ k. HasKeysWithin k (product_maps (key_compare 8) (add_keys 8) m f p))
           (sym (total_powers-cons f (drop i fs)))
           (product_within (greatest_key f) (total_powers (drop i fs)) m f p (greatest_within f) h.within))));
-      residues = subst (HasValuesBelow m) (sym cut) (values_retained m two (λ k. nat_le (total_degree k) d) next
+      residues = subst (HasValuesBelow m) (sym cut) (values_retained m two (λ k. nat_le (plain_degree ws k) d) next
           (subst (HasValuesBelow m) (sym made)
           (values_collected m two (products (add_keys 8) (entries f) (entries p)))));
     })
 
-pub product_all : (m d : ℕ) (fs : List Map) (i : ℕ) (p : Map) → i ≤ 0 → IsProductOf m d (drop i fs) p →
-    IsProductOf m d fs p
-product_all m d fs i p h is = subst (λ j. IsProductOf m d (drop j fs) p) none is
+pub product_all : (m : ℕ) (ws : List ℕ) (d : ℕ) (fs : List Map) (i : ℕ) (p : Map) → i ≤ 0 → IsProductOf m ws d (drop i fs) p →
+    IsProductOf m ws d fs p
+product_all m ws d fs i p h is = subst (λ j. IsProductOf m ws d (drop j fs) p) none is
   where
     none : i ≡ 0
     none = omega arith
@@ -298,73 +299,73 @@ list_accepted job d value fs b r e each h = (
 )
 
 -- the factor tested at a place
-pub tested_at : (m d i : ℕ) (fs : List Map) (f : Map) (r : Root) (b : Bool) → i < length fs → f ≡ get_or fs i f
-    → (IsTrue b → IsFactor d r (plain_polynomial m f)) × (IsFactor d r (plain_polynomial m f) → IsTrue b)
-    → (g : Poly (series_ring m))
-    → (IsTrue b → IsFactor d r (get_or (map (plain_polynomial m) fs) i g))
-    × (IsFactor d r (get_or (map (plain_polynomial m) fs) i g) → IsTrue b)
-tested_at m d i fs f r b lt read h g = subst (λ p. (IsTrue b → IsFactor d r p) × (IsFactor d r p → IsTrue b))
-    (ap (plain_polynomial m) read ∙ sym (get_or-map (plain_polynomial m) fs i f g lt)) h
+pub tested_at : (m : ℕ) (ws : List ℕ) (d i : ℕ) (fs : List Map) (f : Map) (r : Root) (b : Bool) → i < length fs → f ≡ get_or fs i f
+    → (IsTrue b → IsFactor d r (plain_polynomial m ws f)) × (IsFactor d r (plain_polynomial m ws f) → IsTrue b)
+    → (g : Poly (series_ring m ws))
+    → (IsTrue b → IsFactor d r (get_or (map (plain_polynomial m ws) fs) i g))
+    × (IsFactor d r (get_or (map (plain_polynomial m ws) fs) i g) → IsTrue b)
+tested_at m ws d i fs f r b lt read h g = subst (λ p. (IsTrue b → IsFactor d r p) × (IsFactor d r p → IsTrue b))
+    (ap (plain_polynomial m ws) read ∙ sym (get_or-map (plain_polynomial m ws) fs i f g lt)) h
 
-pub one_fails : (m d i : ℕ) (rs : List Root) (fs : List Map) (f : Map) (r : Root) (b : Bool) → i < length rs
+pub one_fails : (m : ℕ) (ws : List ℕ) (d i : ℕ) (rs : List Root) (fs : List Map) (f : Map) (r : Root) (b : Bool) → i < length rs
     → length rs ≡ length fs → f ≡ get_or fs i f → b ≡ false
-    → (IsTrue b → IsFactor d (get_or rs i r) (plain_polynomial m f))
-    × (IsFactor d (get_or rs i r) (plain_polynomial m f) → IsTrue b)
-    → (IsTrue false → EachIsFactor d rs (map (plain_polynomial m) fs))
-    × (EachIsFactor d rs (map (plain_polynomial m) fs) → IsTrue false)
-one_fails m d i rs fs f r b lt long read fails h = refused b fails (λ each. (tested_at m d i fs f (get_or rs i r) b
-    (omega arith) read h (plain_polynomial m f)).1
-    ((each_at d rs (map (plain_polynomial m) fs) each).1 i r (plain_polynomial m f) lt))
+    → (IsTrue b → IsFactor d (get_or rs i r) (plain_polynomial m ws f))
+    × (IsFactor d (get_or rs i r) (plain_polynomial m ws f) → IsTrue b)
+    → (IsTrue false → EachIsFactor d rs (map (plain_polynomial m ws) fs))
+    × (EachIsFactor d rs (map (plain_polynomial m ws) fs) → IsTrue false)
+one_fails m ws d i rs fs f r b lt long read fails h = refused b fails (λ each. (tested_at m ws d i fs f (get_or rs i r) b
+    (omega arith) read h (plain_polynomial m ws f)).1
+    ((each_at d rs (map (plain_polynomial m ws) fs) each).1 i r (plain_polynomial m ws f) lt))
 
-pub one_passes : (m d i : ℕ) (rs : List Root) (fs : List Map) (f : Map) (s : Root) (b : Bool) → i < length rs
+pub one_passes : (m : ℕ) (ws : List ℕ) (d i : ℕ) (rs : List Root) (fs : List Map) (f : Map) (s : Root) (b : Bool) → i < length rs
     → length rs ≡ length fs → f ≡ get_or fs i f → b ≡ true
-    → (IsTrue b → IsFactor d (get_or rs i s) (plain_polynomial m f))
-    × (IsFactor d (get_or rs i s) (plain_polynomial m f) → IsTrue b)
-    → ((k : ℕ) (r : Root) (g : Poly (series_ring m)) → k < i
-    → IsFactor d (get_or rs k r) (get_or (map (plain_polynomial m) fs) k g))
-    → (k : ℕ) (r : Root) (g : Poly (series_ring m)) → k < i + 1
-    → IsFactor d (get_or rs k r) (get_or (map (plain_polynomial m) fs) k g)
-one_passes m d i rs fs f s b lt long read passes h before k r g below = below_more
-    (λ k. (r : Root) (g : Poly (series_ring m)) →
-    IsFactor d (get_or rs k r) (get_or (map (plain_polynomial m) fs) k g)) i
+    → (IsTrue b → IsFactor d (get_or rs i s) (plain_polynomial m ws f))
+    × (IsFactor d (get_or rs i s) (plain_polynomial m ws f) → IsTrue b)
+    → ((k : ℕ) (r : Root) (g : Poly (series_ring m ws)) → k < i
+    → IsFactor d (get_or rs k r) (get_or (map (plain_polynomial m ws) fs) k g))
+    → (k : ℕ) (r : Root) (g : Poly (series_ring m ws)) → k < i + 1
+    → IsFactor d (get_or rs k r) (get_or (map (plain_polynomial m ws) fs) k g)
+one_passes m ws d i rs fs f s b lt long read passes h before k r g below = below_more
+    (λ k. (r : Root) (g : Poly (series_ring m ws)) →
+    IsFactor d (get_or rs k r) (get_or (map (plain_polynomial m ws) fs) k g)) i
     (λ k l r g. before k r g l)
-    (λ r g. subst (λ x. IsFactor d x (get_or (map (plain_polynomial m) fs) i g)) (get_or_default rs i s r lt)
-    ((tested_at m d i fs f (get_or rs i s) b (omega arith) read h g).0 passes)) k below r g
+    (λ r g. subst (λ x. IsFactor d x (get_or (map (plain_polynomial m ws) fs) i g)) (get_or_default rs i s r lt)
+    ((tested_at m ws d i fs f (get_or rs i s) b (omega arith) read h g).0 passes)) k below r g
 
-pub all_pass : (m d i : ℕ) (rs : List Root) (fs : List Map) → length rs ≤ i → length rs ≡ length fs
-    → ((k : ℕ) (r : Root) (g : Poly (series_ring m)) → k < i
-    → IsFactor d (get_or rs k r) (get_or (map (plain_polynomial m) fs) k g))
-    → (IsTrue true → EachIsFactor d rs (map (plain_polynomial m) fs))
-    × (EachIsFactor d rs (map (plain_polynomial m) fs) → IsTrue true)
-all_pass m d i rs fs le long h = (
-  λ t. each_from d rs (map (plain_polynomial m) fs) (
+pub all_pass : (m : ℕ) (ws : List ℕ) (d i : ℕ) (rs : List Root) (fs : List Map) → length rs ≤ i → length rs ≡ length fs
+    → ((k : ℕ) (r : Root) (g : Poly (series_ring m ws)) → k < i
+    → IsFactor d (get_or rs k r) (get_or (map (plain_polynomial m ws) fs) k g))
+    → (IsTrue true → EachIsFactor d rs (map (plain_polynomial m ws) fs))
+    × (EachIsFactor d rs (map (plain_polynomial m ws) fs) → IsTrue true)
+all_pass m ws d i rs fs le long h = (
+  λ t. each_from d rs (map (plain_polynomial m ws) fs) (
     long ∙ sym (rw length-map refl),
     λ k r g lt. h k r g (omega arith),
   ),
   λ e. refl,
 )
 
-pub other_lengths : (m d : ℕ) (rs : List Root) (fs : List Map) → (length rs ≡ length fs → ⊥)
-    → (IsTrue false → EachIsFactor d rs (map (plain_polynomial m) fs))
-    × (EachIsFactor d rs (map (plain_polynomial m) fs) → IsTrue false)
-other_lengths m d rs fs h = (
+pub other_lengths : (m : ℕ) (ws : List ℕ) (d : ℕ) (rs : List Root) (fs : List Map) → (length rs ≡ length fs → ⊥)
+    → (IsTrue false → EachIsFactor d rs (map (plain_polynomial m ws) fs))
+    × (EachIsFactor d rs (map (plain_polynomial m ws) fs) → IsTrue false)
+other_lengths m ws d rs fs h = (
   λ t. absurd (cc),
-  λ e. absurd (h ((each_at d rs (map (plain_polynomial m) fs) e).0 ∙ rw length-map refl)),
+  λ e. absurd (h ((each_at d rs (map (plain_polynomial m ws) fs) e).0 ∙ rw length-map refl)),
 )
 
 -- a factor is one that passes all three tests
-pub factor_tested : {E : Type 0} (m d : ℕ) (r : Root) (f : Map) (x y : Bool) (q : Result Bool E) → 2 ≤ m →
+pub factor_tested : {E : Type 0} (m : ℕ) (ws : List ℕ) (d : ℕ) (r : Root) (f : Map) (x y : Bool) (q : Result Bool E) → 2 ≤ m →
     HasValuesBelow m f
-    → x ≡ true → (IsTrue x → IsMonic r.times (plain_polynomial m f)) ×
-    (IsMonic r.times (plain_polynomial m f) → IsTrue x)
+    → x ≡ true → (IsTrue x → IsMonic r.times (plain_polynomial m ws f)) ×
+    (IsMonic r.times (plain_polynomial m ws f) → IsTrue x)
     → y ≡ true
-    → (IsTrue y → truncated 0 (plain_polynomial m f) ≡ root_power r)
-    × (truncated 0 (plain_polynomial m f) ≡ root_power r → IsTrue y)
+    → (IsTrue y → truncated 0 (plain_polynomial m ws f) ≡ root_power r)
+    × (truncated 0 (plain_polynomial m ws f) ≡ root_power r → IsTrue y)
     → IfOk q (λ b. (n : ℕ) → 2 ≤ n → HasValuesBelow n f
-    → (IsTrue b → HasNoDegreeAbove d (plain_polynomial n f)) × (HasNoDegreeAbove d (plain_polynomial n f) → IsTrue b))
-    → IfOk q (λ b. (IsTrue b → IsFactor d r (plain_polynomial m f)) × (IsFactor d r (plain_polynomial m f) → IsTrue b))
-factor_tested m d r f x y (Ok b) two below ex hx ey hy h = (
+    → (IsTrue b → HasNoDegreeAbove d (plain_polynomial n ws f)) × (HasNoDegreeAbove d (plain_polynomial n ws f) → IsTrue b))
+    → IfOk q (λ b. (IsTrue b → IsFactor d r (plain_polynomial m ws f)) × (IsFactor d r (plain_polynomial m ws f) → IsTrue b))
+factor_tested m ws d r f x y (Ok b) two below ex hx ey hy h = (
   λ t. record { monic = hx.0 ex; at_origin = hy.0 ey; within = (h m two below).0 t },
   λ k. (h m two below).1 k.within,
 )
-factor_tested m d r f x y (Err e) two below ex hx ey hy h = tt
+factor_tested m ws d r f x y (Err e) two below ex hx ey hy h = tt

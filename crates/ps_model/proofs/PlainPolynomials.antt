@@ -7,8 +7,8 @@ use Rattle.std.specs.Ordering.{eq_by_cmp}
 use Rattle.std.specs.FinMap.{FinMap, get, entries, get-entries, find, retain_keys, get-retain_keys}
 use Rattle.std.proofs.Math.Nat.{mod-lt, mod-eq_of_lt}
 use Rattle.std.proofs.lemmas.List.Elements.{All-map, All-head, All-tail}
-use Rattle.ps_model.specs.Keys.{Key, key_compare, add_keys, y_key}
-use Rattle.ps_model.specs.KeyLaws.{key_compare-IsAntisymmetric}
+use Rattle.ps_model.specs.Keys.{Key, weights_from, key_compare, add_keys, y_key}
+use Rattle.ps_model.specs.KeyLaws.{weights_from-positive, key_compare-IsAntisymmetric}
 use Rattle.ps_model.specs.Ring.{Ring}
 use Rattle.ps_model.specs.SeriesRing.{ring, ring_of}
 use Rattle.ps_model.specs.FiniteMaps.{collected, sum_maps, product_maps}
@@ -17,9 +17,9 @@ use Rattle.ps_model.specs.Polynomial.{of_map, kept_terms, monomial, one}
 use Rattle.ps_model.specs.Truncation as by_degree
 use Rattle.ps_model.specs.Shift as shift
 use Rattle.ps_model.specs.Notation as words
-use Rattle.ps_model.specs.Job.{series_ring, ones, ones-positive}
+use Rattle.ps_model.specs.Job.{series_ring}
 use Rattle.ps_model.specs.Plain.{entry_of, TermsInOrder}
-use Rattle.ps_model.specs.PlainLists.{total_degree, cut_map}
+use Rattle.ps_model.specs.PlainLists.{plain_degree, cut_map}
 use Rattle.ps_model.specs.PlainPolynomial.{plain_polynomial, HasResiduesBelow, HasValuesBelow, y_part}
 use Rattle.ps_model.specs.declared.plain.PlainTerm.{PlainTerm}
 use Rattle.ps_model.proofs.OfMap.{coefficient-of_map, map-of_map, of_map-collected, of_map-sum, of_map-product}
@@ -77,41 +77,41 @@ module _ (R : Ring) where
 modulus_is : (m : ℕ) → 2 ≤ m → m ≡ max 2 m
 modulus_is m two = omega arith
 
-module _ (m : ℕ) (two : 2 ≤ m) where
-  pub product_polynomial : (a b : Map) → plain_polynomial m (product_maps (key_compare 8) (add_keys 8) m a b)
-      ≡ words.product (plain_polynomial m a) (plain_polynomial m b)
+module _ (m : ℕ) (ws : List ℕ) (two : 2 ≤ m) where
+  pub product_polynomial : (a b : Map) → plain_polynomial m ws (product_maps (key_compare 8) (add_keys 8) m a b)
+      ≡ words.product (plain_polynomial m ws a) (plain_polynomial m ws b)
   unfolding series_ring plain_polynomial
   product_polynomial a b =
-      ap (λ n. of_map (ring (series_ring m)) (product_maps (key_compare 8) (add_keys 8) n a b)) (modulus_is m two)
-      ∙ of_map-product (ring (series_ring m)) a b
+      ap (λ n. of_map (ring (series_ring m ws)) (product_maps (key_compare 8) (add_keys 8) n a b)) (modulus_is m two)
+      ∙ of_map-product (ring (series_ring m ws)) a b
 
-  pub sum_polynomial : (a b : Map) → plain_polynomial m (sum_maps (key_compare 8) m a b)
-      ≡ words.sum (plain_polynomial m a) (plain_polynomial m b)
+  pub sum_polynomial : (a b : Map) → plain_polynomial m ws (sum_maps (key_compare 8) m a b)
+      ≡ words.sum (plain_polynomial m ws a) (plain_polynomial m ws b)
   unfolding series_ring plain_polynomial
-  sum_polynomial a b = ap (λ n. of_map (ring (series_ring m)) (sum_maps (key_compare 8) n a b)) (modulus_is m two)
-      ∙ of_map-sum (ring (series_ring m)) a b
+  sum_polynomial a b = ap (λ n. of_map (ring (series_ring m ws)) (sum_maps (key_compare 8) n a b)) (modulus_is m two)
+      ∙ of_map-sum (ring (series_ring m ws)) a b
 
-  pub y_power_polynomial : (k : ℕ) → plain_polynomial m (collected (key_compare 8) m ((y_key 8 k, 1) ∷ []))
-      ≡ words.monomial 1 ((ring (series_ring m)).y k)
+  pub y_power_polynomial : (k : ℕ) → plain_polynomial m ws (collected (key_compare 8) m ((y_key 8 k, 1) ∷ []))
+      ≡ words.monomial 1 ((ring (series_ring m ws)).y k)
   unfolding series_ring plain_polynomial
   y_power_polynomial k = ap
-      (λ n. of_map (ring (series_ring m)) (collected (key_compare 8) n ((y_key 8 k, 1) ∷ []))) (modulus_is m two)
-      ∙ of_map-monomial (ring (series_ring m)) 1 (y_key 8 k)
+      (λ n. of_map (ring (series_ring m ws)) (collected (key_compare 8) n ((y_key 8 k, 1) ∷ []))) (modulus_is m two)
+      ∙ of_map-monomial (ring (series_ring m ws)) 1 (y_key 8 k)
 
-  pub one_polynomial : plain_polynomial m (collected (key_compare 8) m ((y_key 8 0, 1) ∷ [])) ≡ words.one
+  pub one_polynomial : plain_polynomial m ws (collected (key_compare 8) m ((y_key 8 0, 1) ∷ [])) ≡ words.one
   unfolding series_ring plain_polynomial
-  one_polynomial = ap (λ n. of_map (ring (series_ring m)) (collected (key_compare 8) n ((y_key 8 0, 1) ∷ [])))
+  one_polynomial = ap (λ n. of_map (ring (series_ring m ws)) (collected (key_compare 8) n ((y_key 8 0, 1) ∷ [])))
       (modulus_is m two)
-      ∙ of_map-one (ring (series_ring m))
+      ∙ of_map-one (ring (series_ring m ws))
 
   pub linear_polynomial : (v : ℕ)
-      → plain_polynomial m (collected (key_compare 8) m ((y_key 8 1, 1) ∷ (y_key 8 0, m - v) ∷ []))
-      ≡ words.linear ((ring (series_ring m)).modulus - v)
+      → plain_polynomial m ws (collected (key_compare 8) m ((y_key 8 1, 1) ∷ (y_key 8 0, m - v) ∷ []))
+      ≡ words.linear ((ring (series_ring m ws)).modulus - v)
   unfolding series_ring plain_polynomial
   linear_polynomial v = ap
-      (λ n. of_map (ring (series_ring m)) (collected (key_compare 8) n ((y_key 8 1, 1) ∷ (y_key 8 0, n - v) ∷ [])))
+      (λ n. of_map (ring (series_ring m ws)) (collected (key_compare 8) n ((y_key 8 1, 1) ∷ (y_key 8 0, n - v) ∷ [])))
       (modulus_is m two)
-      ∙ of_map-linear (ring (series_ring m)) (max 2 m - v)
+      ∙ of_map-linear (ring (series_ring m ws)) (max 2 m - v)
 
   -- maps with equal polynomials, all of whose values are residues, and whose terms are listed
   positive : (es : List (Key 8 × ℕ)) (q : Key 8) (c : ℕ) → All (λ e. 0 < e.1) es →
@@ -134,15 +134,16 @@ module _ (m : ℕ) (two : 2 ≤ m) where
 
   pub same_maps : (p q : Map) (ts us : List PlainTerm) → map entry_of ts ≡ entries p → TermsInOrder ts
       → map entry_of us ≡ entries q → TermsInOrder us → HasValuesBelow m p → HasValuesBelow m q
-      → plain_polynomial m p ≡ plain_polynomial m q → p ≡ q
+      → plain_polynomial m ws p ≡ plain_polynomial m ws q → p ≡ q
   unfolding series_ring plain_polynomial
-  same_maps p q ts us lp op lq oq hp hq e = maps_equal (ring (series_ring m)) p q (residues p ts lp op hp)
+  same_maps p q ts us lp op lq oq hp hq e = maps_equal (ring (series_ring m ws)) p q (residues p ts lp op hp)
       (residues q us lq oq hq) e
 
+module _ (m : ℕ) (two : 2 ≤ m) where
   pub values_collected : (es : List (Key 8 × ℕ)) → HasValuesBelow m (collected (key_compare 8) m es)
   unfolding HasValuesBelow
   values_collected es k = subst (λ n. n < m)
-      (sym (linear_form-collected (ring_of 8 m two (ones 8) (ones-positive 8)) es k))
+      (sym (linear_form-collected (ring_of 8 m two (weights_from 8 []) (weights_from-positive 8 [])) es k))
       (mod-lt _ (omega arith))
 
   kept_below : (b : Bool) (o : Option ℕ) → unwrap_or o 0 < m → unwrap_or (cond b o None) 0 < m
@@ -168,11 +169,12 @@ module _ (m : ℕ) (two : 2 ≤ m) where
   unfolding HasValuesBelow
   values_below p h k = subst (λ o. unwrap_or o 0 < m) (sym (get-entries p k)) (found_below (entries p) k h)
 
-pub cut_polynomial : (m d : ℕ) (p : Map) → plain_polynomial m (cut_map d p) ≡ words.truncated d (plain_polynomial m p)
-unfolding series_ring plain_polynomial total_degree
-cut_polynomial m d p = of_map-cut (ring (series_ring m)) d p
+pub cut_polynomial : (m : ℕ) (ws : List ℕ) (d : ℕ) (p : Map) →
+    plain_polynomial m ws (cut_map ws d p) ≡ words.truncated d (plain_polynomial m ws p)
+unfolding series_ring plain_polynomial plain_degree
+cut_polynomial m ws d p = of_map-cut (ring (series_ring m ws)) d p
 
-pub y_part_polynomial : (m k : ℕ) (p : Map) →
-    plain_polynomial m (y_part k p) ≡ words.y_powers_from k (plain_polynomial m p)
+pub y_part_polynomial : (m : ℕ) (ws : List ℕ) (k : ℕ) (p : Map) →
+    plain_polynomial m ws (y_part k p) ≡ words.y_powers_from k (plain_polynomial m ws p)
 unfolding series_ring plain_polynomial
-y_part_polynomial m k p = of_map-retained (ring (series_ring m)) (λ x. nat_le k x.y) p
+y_part_polynomial m ws k p = of_map-retained (ring (series_ring m ws)) (λ x. nat_le k x.y) p

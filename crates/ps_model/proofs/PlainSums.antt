@@ -1,19 +1,19 @@
 -- What is added to a map term by term is the map of a formal sum.
 use Rattle.std.proofs.Common.{◌≡◌, ℕ, zero, suc, ◌+◌, ◌-◌, ◌*◌, ◌%◌, ◌^◌, ◌<◌, ◌≤◌, List, [], ◌∷◌, ◌++◌, length}
 use Rattle.std.proofs.Common.{get_or, map, drop, refl, sym, ◌∙◌, ap, subst, arith, All}
-use Rattle.std.proofs.Common.{◌≢◌, get_or-set_other, get_or-set_same, below_more}
+use Rattle.std.proofs.Common.{◌≢◌, get_or-set_other, get_or-set_same, below_more, zero-add}
 use Rattle.std.proofs.Math.ListN.{set}
-use Rattle.std.specs.Prelude.{sum}
+use Rattle.std.specs.Prelude.{max}
 use Rattle.std.specs.FinMap.{FinMap, empty, entries}
+use Rattle.std.proofs.lemmas.Nat.{mul-le}
 use Rattle.std.proofs.lemmas.List.{get_or-map, length-map, drop_more, drop_all, append-nil}
-use Rattle.ps_model.specs.Keys.{Key, Powers, powers_of, numbers, add_powers, add_keys, key_compare, weighted}
+use Rattle.ps_model.specs.Keys.{Key, Powers, powers_of, numbers, weights_from, add_powers, add_keys, key_compare}
+use Rattle.ps_model.specs.Keys.{weighted}
 use Rattle.ps_model.specs.Sums.{products}
 use Rattle.ps_model.specs.FiniteMaps.{collected, put, sum_maps}
-use Rattle.ps_model.specs.Job.{ones}
 use Rattle.ps_model.specs.Plain.{key_of, entry_of, value_in}
-use Rattle.ps_model.specs.PlainLists.{IsInRange, HasProductsInRange, added, multiplied, total_degree}
+use Rattle.ps_model.specs.PlainLists.{IsInRange, HasProductsInRange, added, multiplied, plain_degree}
 use Rattle.ps_model.specs.declared.plain.PlainTerm.{PlainTerm}
-use Rattle.std.proofs.lemmas.List.Sums.{sum_by-cons}
 use Rattle.ps_model.proofs.Coefficients.{collected-nil, collected-cons}
 
 abbrev Map : Type 0
@@ -199,16 +199,51 @@ pub y_fits : (a b : PlainTerm) → IsInRange (add_keys 8 (key_of a) (key_of b)) 
 unfolding IsInRange
 y_fits a b h = h.1
 
--- the degree is the sum of the powers
-pub degree_is : (n : ℕ) (xs : List ℕ) → length xs ≡ n → weighted n (ones n) (powers_of n xs) ≡ sum xs
-degree_is zero [] h = refl
-degree_is zero (x ∷ xs) h = absurd (omega arith)
-degree_is (suc n) [] h = absurd (omega arith)
-degree_is (suc n) (x ∷ xs) h = omega (arith, degree_is n xs (omega arith), sum_by-cons (λ x. x) x xs)
+-- the degree, one variable more at a time
+weights_from-suc : (n : ℕ) (ws : List ℕ) → weights_from (suc n) ws ≡ (max 1 (get_or ws 0 0), weights_from n (drop 1 ws))
+weights_from-suc n [] = refl
+weights_from-suc n (w ∷ ws) = refl
 
-pub total_degree_is : (t : PlainTerm) → length t.powers ≡ 8 → total_degree (key_of t) ≡ sum t.powers
-unfolding total_degree
-total_degree_is t h = degree_is 8 t.powers h
+-- what the variables from i on add to a degree
+abbrev pub later_degree : List ℕ → List ℕ → ℕ → ℕ → ℕ
+later_degree ws xs i n = weighted n (weights_from n (drop i ws)) (powers_of n (drop i xs))
+
+get_or-drop : (xs : List ℕ) (i : ℕ) → get_or (drop i xs) 0 0 ≡ get_or xs i 0
+get_or-drop xs zero = refl
+get_or-drop [] (suc i) = refl
+get_or-drop (x ∷ xs) (suc i) = get_or-drop xs i
+
+drop_next : (xs : List ℕ) (i : ℕ) → drop 1 (drop i xs) ≡ drop (suc i) xs
+drop_next xs zero = refl
+drop_next [] (suc i) = refl
+drop_next (x ∷ xs) (suc i) = drop_next xs i
+
+later_degree-next : (ws xs : List ℕ) (i n : ℕ) → later_degree ws xs i (suc n)
+    ≡ max 1 (get_or ws i 0) * get_or xs i 0 + later_degree ws xs (suc i) n
+later_degree-next ws xs i n =
+    (λ j. weighted (suc n) (weights_from-suc n (drop i ws) j) (powers_of-suc n (drop i xs) j))
+    ∙ (λ j. max 1 (get_or-drop ws i j) * get_or-drop xs i j
+    + weighted n (weights_from n (drop_next ws i j)) (powers_of n (drop_next xs i j)))
+
+pub degree_begun : (ws : List ℕ) (t : PlainTerm) → 0 + later_degree ws t.powers 0 8 ≡ plain_degree ws (key_of t)
+unfolding plain_degree
+degree_begun ws t = zero-add _
+
+pub degree_more : (ws xs : List ℕ) (i degree whole w x : ℕ) → i < 8 → w ≡ max 1 (get_or ws i 0) → x ≡ get_or xs i 0
+    → degree + later_degree ws xs i (8 - i) ≡ whole
+    → (degree + w * x) + later_degree ws xs (i + 1) (8 - (i + 1)) ≡ whole
+degree_more ws xs i degree whole w x lt ew ex is = (λ j. (degree + ew j * ex j) + later_degree ws xs (next j) (8 - next j))
+    ∙ omega (arith, later_degree-next ws xs i (8 - suc i), is, ap (later_degree ws xs i) left)
+  where
+    next : i + 1 ≡ suc i
+    next = omega arith
+
+    left : 8 - i ≡ suc (8 - suc i)
+    left = omega arith
+
+pub degree_grows : (i degree w x : ℕ) → w < 65536 → x < 65536 → degree ≤ 4294836225 * i
+    → degree + w * x ≤ 4294836225 * (i + 1)
+degree_grows i degree w x hw hx h = omega (arith, mul-le w x 65535 65535 (omega arith) (omega arith), h)
 
 pub next_fits : (a b : PlainTerm) (i x : ℕ) → IsInRange (add_keys 8 (key_of a) (key_of b)) → i < 8
     → x ≡ get_or a.powers i 0 → x + get_or b.powers i 0 < 2 ^ 16

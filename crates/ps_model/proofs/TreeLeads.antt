@@ -1,6 +1,6 @@
 -- Values of well-formed trees: no power of Y above the formal degree, and there the leading number where it is known.
 use Rattle.std.proofs.Common.{◌≡◌, ℕ, ◌+◌, ◌-◌, ◌*◌, ◌%◌, ◌^◌, ◌<◌, ◌≤◌, Bool, true, false, cond, inl, inr}
-use Rattle.std.proofs.Common.{refl, sym, ◌∙◌, ap, subst, arith, ◌||◌, ◌&&◌}
+use Rattle.std.proofs.Common.{refl, sym, ◌∙◌, ap, subst, arith, ◌||◌}
 use Rattle.std.specs.Prelude.{max, ◌==◌, MatchBool}
 use Rattle.std.proofs.Math.Nat.{mod-lt, mod-mod, mod_self, mod-eq_of_lt, mul-one}
 use Rattle.std.proofs.lemmas.Bool.{eqb-true, eqb-false}
@@ -16,7 +16,8 @@ use Rattle.ps_model.specs.SeriesRing.{SeriesRing, ring, Poly}
 use Rattle.ps_model.specs.Tree.{formal_degree, greatest_degree, product_degree, has_y, summands_have_y}
 use Rattle.ps_model.specs.Tree.{factors_have_y, is_number, are_numbers, factors_are_numbers, IsValidTree}
 use Rattle.ps_model.specs.Tree.{AreFactors, AreValidSummands, AreValidFactors}
-use Rattle.ps_model.specs.Value.{IsValue, IsSumValue, IsProductValue, IsLaterValue, HasInverseShare}
+use Rattle.ps_model.specs.Value.{variable, IsValue, IsValueWith, IsSumValueWith, IsProductValueWith}
+use Rattle.ps_model.specs.Value.{IsLaterValueWith, HasInverseShare}
 use Rattle.ps_model.specs.Value.{HasLead, HasSumLead, HasProductLead}
 use Rattle.ps_model.proofs.Coefficients.{above_zero}
 use Rattle.ps_model.proofs.RingLaws.{mul-mod_last}
@@ -29,19 +30,12 @@ use Rattle.ps_model.proofs.PowerBounds.{power_bound-truncated, power_bound-sum}
 use Rattle.ps_model.proofs.PowerBounds.{power_bound-product, power_bound-power, power_bound-quotient}
 use Rattle.ps_model.proofs.TopTerms.{HasTop, monomial-nothing, top-same, top-monomial, top-truncated}
 use Rattle.ps_model.proofs.TopTerms.{top-sum, top-negative, top-none, top-product, top-one, top-power, top-quotient}
-use Rattle.ps_model.proofs.TreeValues.{value_flat, same_value, value-truncated}
+use Rattle.ps_model.proofs.TreeNames.{left_true, right_true, number_names, other_value}
+use Rattle.ps_model.proofs.TreeValues.{value_flat, same_value, value-truncated, variable_flat}
 
 match_cases : {P Q X : Type 0} (b : Bool) → (b ≡ true → P → X) → (b ≡ false → Q → X) → MatchBool b P Q → X
 match_cases true f g h = f refl h
 match_cases false f g h = g refl h
-
-left_true : (a b : Bool) → (a && b) ≡ true → a ≡ true
-left_true true b e = refl
-left_true false b e = e
-
-right_true : (a b : Bool) → (a && b) ≡ true → b ≡ true
-right_true true b e = e
-right_true false b e = absurd (cc)
 
 neither : (a b : Bool) → a ≡ false → b ≡ false → (a || b) ≡ false
 neither true b p q = absurd (cc)
@@ -102,7 +96,8 @@ module _ (S : SeriesRing) where
     product_lead_small end_of-Factor l h = small_one l h
     product_lead_small (more_of-Factor divide of rest) l h = small_remainder _ l h.4
 
-module _ (S : SeriesRing) (D : ℕ) where
+-- where no name's value has Y
+module _ (S : SeriesRing) (values : ℕ → Poly S) (flat : (i : ℕ) → HasNoPowerAbove 0 (values i)) (D : ℕ) where
   abbrev R : Ring
   R = ring S
 
@@ -113,7 +108,7 @@ module _ (S : SeriesRing) (D : ℕ) where
 
   mutual
     -- the value of a number has degree 0
-    pub number_bound : (e : Expr) (p : Poly S) → is_number e ≡ true → IsValue S D e p → HasNoDegreeAbove 0 p
+    pub number_bound : (e : Expr) (p : Poly S) → is_number e ≡ true → IsValueWith S D values e p → HasNoDegreeAbove 0 p
     number_bound (Number c) p h is = subst (HasNoDegreeAbove 0) (sym is) (bound-truncated R R.degree D 0 _
         (truncated-monomial R R.degree 0 c R.origin (let e = R.degree_adds.1 in omega arith)))
     number_bound (Name i) p h is = absurd (cc)
@@ -126,7 +121,7 @@ module _ (S : SeriesRing) (D : ℕ) where
         (bound-power R R.degree R.degree_adds 0 exponent v (number_bound base v h is))))
 
     numbers_bound : {m : _} (row : Row_of-Summand m) (p : Poly S) → are_numbers row ≡ true
-        → IsSumValue S D row p → HasNoDegreeAbove 0 p
+        → IsSumValueWith S D values row p → HasNoDegreeAbove 0 p
     numbers_bound end_of-Summand p h is = subst (HasNoDegreeAbove 0) (sym is) (truncated-nothing R R.degree 0)
     numbers_bound (more_of-Summand minus of rest) p h (v, others, is, are, at) =
         subst (HasNoDegreeAbove 0) (sym at) (bound-sum R R.degree 0 _ _
@@ -134,38 +129,38 @@ module _ (S : SeriesRing) (D : ℕ) where
         (numbers_bound rest others (right_true _ _ h) are))
 
     product_bound : {m : _} (row : Row_of-Factor m) (p : Poly S) → factors_are_numbers row ≡ true
-        → IsProductValue S D row p → HasNoDegreeAbove 0 p
+        → IsProductValueWith S D values row p → HasNoDegreeAbove 0 p
     product_bound end_of-Factor p h is = absurd is
     product_bound (more_of-Factor divide of rest) p h (v, is, later) =
         later_bound rest v p (right_true _ _ h) (number_bound of v (left_true _ _ h) is) later
 
     later_bound : {m : _} (row : Row_of-Factor m) (first p : Poly S) → factors_are_numbers row ≡ true
-        → HasNoDegreeAbove 0 first → IsLaterValue S D first row p → HasNoDegreeAbove 0 p
-    later_bound end_of-Factor first p h flat is = subst (HasNoDegreeAbove 0) (sym is) flat
-    later_bound (more_of-Factor true of rest) first p h flat (v, next, is, step, later) =
+        → HasNoDegreeAbove 0 first → IsLaterValueWith S D values first row p → HasNoDegreeAbove 0 p
+    later_bound end_of-Factor first p h low is = subst (HasNoDegreeAbove 0) (sym is) low
+    later_bound (more_of-Factor true of rest) first p h low (v, next, is, step, later) =
         later_bound rest next p (right_true _ _ h) (bound-quotient R R.degree R.degree_adds D 0 first v next
-        (value_flat S D of v step.0 is) (number_bound of v (left_true _ _ h) is) step.1 flat step.2) later
-    later_bound (more_of-Factor false of rest) first p h flat (v, next, is, step, later) =
+        (value_flat S values flat D of v step.0 is) (number_bound of v (left_true _ _ h) is) step.1 low step.2) later
+    later_bound (more_of-Factor false of rest) first p h low (v, next, is, step, later) =
         later_bound rest next p (right_true _ _ h) (subst (HasNoDegreeAbove 0) (sym step)
         (bound-truncated R R.degree D 0 _ (bound-more R R.degree (0 + 0) 0 _ (omega arith)
-        (bound-product R R.degree R.degree_adds 0 0 first v flat (number_bound of v (left_true _ _ h) is))))) later
+        (bound-product R R.degree R.degree_adds 0 0 first v low (number_bound of v (left_true _ _ h) is))))) later
 
   -- the value of a number is its constant term
-  pub number_value : (e : Expr) (p : Poly S) → is_number e ≡ true → IsValue S D e p
+  pub number_value : (e : Expr) (p : Poly S) → is_number e ≡ true → IsValueWith S D values e p
       → p ≡ monomial R (coefficient R p R.origin) R.origin
   number_value e p h is = sym (sym (truncated-zero R R.y_degree _)
       ∙ ap (truncated R R.y_degree 0) (sym (truncated-zero R R.degree p) ∙ number_bound e p h is)
-      ∙ value_flat S D e p (number_without_y e h) is) ∙ constant_is R p
+      ∙ value_flat S values flat D e p (number_without_y e h) is) ∙ constant_is R p
 
   module _ (names : ℕ) where
     mutual
       -- no power of Y above the formal degree
-      pub value_powers : (e : Expr) (p : Poly S) → IsValidTree names e → IsValue S D e p
+      pub value_powers : (e : Expr) (p : Poly S) → IsValidTree names e → IsValueWith S D values e p
           → HasNoPowerAbove (formal_degree e) p
       value_powers (Number c) p h is = subst (HasNoPowerAbove 0) (sym is)
           (power_bound-truncated R D 0 _ (truncated-monomial R R.y_degree 0 c _ (omega arith)))
       value_powers (Name i) p h is = subst (HasNoPowerAbove 0) (sym is)
-          (power_bound-truncated R D 0 _ (truncated-monomial R R.y_degree 0 1 _ (omega arith)))
+          (power_bound-truncated R D 0 (values i) (flat i))
       value_powers MainVariable p h is = subst (HasNoPowerAbove 1) (sym is)
           (power_bound-truncated R D 1 _ (truncated-monomial R R.y_degree 1 1 _ (omega arith)))
       value_powers (Sum' shape summands) p h is = sum_powers summands p h.1 is
@@ -174,7 +169,8 @@ module _ (S : SeriesRing) (D : ℕ) where
           subst (HasNoPowerAbove (exponent * formal_degree base)) (sym at) (power_bound-truncated R D _ _
           (power_bound-power R (formal_degree base) exponent v (value_powers base v h.0 is)))
 
-      sum_powers : {m : _} (row : Row_of-Summand m) (p : Poly S) → AreValidSummands names row → IsSumValue S D row p
+      sum_powers : {m : _} (row : Row_of-Summand m) (p : Poly S) → AreValidSummands names row
+          → IsSumValueWith S D values row p
           → HasNoPowerAbove (greatest_degree row) p
       sum_powers end_of-Summand p h is = subst (HasNoPowerAbove 0) (sym is) (truncated-nothing R R.y_degree 0)
       sum_powers (more_of-Summand minus of rest) p h (v, others, is, are, at) =
@@ -185,19 +181,21 @@ module _ (S : SeriesRing) (D : ℕ) where
           (power_bound-more R (greatest_degree rest) _ others (omega arith) (sum_powers rest others h.1 are)))
 
       product_powers : {m : _} (row : Row_of-Factor m) (p : Poly S) → AreFactors row → AreValidFactors names row
-          → IsProductValue S D row p → HasNoPowerAbove (product_degree row) p
+          → IsProductValueWith S D values row p → HasNoPowerAbove (product_degree row) p
       product_powers end_of-Factor p ok h is = absurd is
       product_powers (more_of-Factor true of rest) p ok h is = absurd (first_kept of rest ok)
       product_powers (more_of-Factor false of rest) p ok h (v, is, later) =
           later_powers rest (formal_degree of) v p h.1 (value_powers of v h.0 is) later
 
       later_powers : {m : _} (row : Row_of-Factor m) (K : ℕ) (first p : Poly S) → AreValidFactors names row
-          → HasNoPowerAbove K first → IsLaterValue S D first row p → HasNoPowerAbove (K + product_degree row) p
+          → HasNoPowerAbove K first → IsLaterValueWith S D values first row p
+          → HasNoPowerAbove (K + product_degree row) p
       later_powers end_of-Factor K first p ok h is = subst (HasNoPowerAbove (K + 0)) (sym is)
           (power_bound-more R K (K + 0) first (omega arith) h)
       later_powers (more_of-Factor true of rest) K first p ok h (v, next, is, step, later) =
           power_bound-more R (K + product_degree rest) (K + (0 + product_degree rest)) p (omega arith)
-          (later_powers rest K next p ok.1 (power_bound-quotient R D K first v next (value_flat S D of v step.0 is)
+          (later_powers rest K next p ok.1 (power_bound-quotient R D K first v next
+          (value_flat S values flat D of v step.0 is)
           step.1 h step.2) later)
       later_powers (more_of-Factor false of rest) K first p ok h (v, next, is, step, later) =
           power_bound-more R ((K + formal_degree of) + product_degree rest)
@@ -225,11 +223,15 @@ module _ (S : SeriesRing) (D : ℕ) where
     top-remainder K n l p e h = top-same R K n l p (sym (mod-mod n S.modulus) ∙ ap (λ k. k % S.modulus) (sym e)) h
 
     -- the share of a divisor inverts its value
-    share_inverts : (of : Expr) (v : Poly S) (b : ℕ) → IsValue S D of v → HasInverseShare S of b
+    share_inverts : (of : Expr) (v : Poly S) (b : ℕ) → IsValueWith S D values of v → HasInverseShare S of b
         → (coefficient R v R.origin * b) % S.modulus ≡ 1
     share_inverts of v b is (number, w, is', small, inverts) = ap (λ n. (n * b) % S.modulus)
         (sym (coefficient-truncated_constant R 0 v) ∙ ap (λ q. coefficient R q R.origin)
-        (same_value S 0 of (truncated R R.degree 0 v) w (value-truncated S 0 D (omega arith) of v is) is')) ∙ inverts
+        (same_value S (variable S) (variable_flat S) 0 of (truncated R R.degree 0 v) w own is')) ∙ inverts
+      where
+        own : IsValue S 0 of (truncated R R.degree 0 v)
+        own = other_value S 0 (λ i. ⊥) values (variable S) (λ i none. absurd none) of (truncated R R.degree 0 v)
+            (number_names of number) (value-truncated S values 0 D (omega arith) of v is)
 
     below : (a b K : ℕ) → max a b ≤ K → (a ≡ K → ⊥) → a < K
     below a b K le ne = omega arith
@@ -249,7 +251,7 @@ module _ (S : SeriesRing) (D : ℕ) where
 
     mutual
       -- the coefficient of Y ^ formal_degree is the leading number
-      pub value_top : (e : Expr) (l : ℕ) (p : Poly S) → IsValidTree names e → HasLead S e l → IsValue S D e p
+      pub value_top : (e : Expr) (l : ℕ) (p : Poly S) → IsValidTree names e → HasLead S e l → IsValueWith S D values e p
           → HasTop R (formal_degree e) l p
       value_top (Number c) l p h lead is = subst (HasTop R 0 l) (sym is) (top-truncated R D 0 l _
           (top-remainder 0 c l _ lead (top-monomial R 0 c)))
@@ -269,7 +271,7 @@ module _ (S : SeriesRing) (D : ℕ) where
           ]))
 
       sum_top : {m : _} (row : Row_of-Summand m) (K l : ℕ) (p : Poly S) → AreValidSummands names row
-          → greatest_degree row ≤ K → HasSumLead S K row l → IsSumValue S D row p → HasTop R K l p
+          → greatest_degree row ≤ K → HasSumLead S K row l → IsSumValueWith S D values row p → HasTop R K l p
       sum_top end_of-Summand K l p h le lead is = subst (HasTop R K l) (sym is)
           (subst (λ n. HasTop R K n (nought R)) (sym lead) (top-nothing K))
       sum_top (more_of-Summand minus of rest) K l p h le lead (v, others, is, are, at) =
@@ -284,7 +286,7 @@ module _ (S : SeriesRing) (D : ℕ) where
           (sum_top rest K l others h.1 (omega arith) later are))) lead)
 
       product_top : {m : _} (row : Row_of-Factor m) (l : ℕ) (p : Poly S) → AreFactors row
-          → AreValidFactors names row → HasProductLead S row l → IsProductValue S D row p
+          → AreValidFactors names row → HasProductLead S row l → IsProductValueWith S D values row p
           → HasTop R (product_degree row) l p
       product_top end_of-Factor l p ok h lead is = absurd is
       product_top (more_of-Factor true of rest) l p ok h lead is = absurd (first_kept of rest ok)
@@ -294,7 +296,8 @@ module _ (S : SeriesRing) (D : ℕ) where
           (value_top of a v h.0 first is) leads later)
 
       later_top : {m : _} (row : Row_of-Factor m) (K a l : ℕ) (first p : Poly S) → AreValidFactors names row
-          → HasNoPowerAbove K first → HasTop R K a first → HasProductLead S row l → IsLaterValue S D first row p
+          → HasNoPowerAbove K first → HasTop R K a first → HasProductLead S row l
+          → IsLaterValueWith S D values first row p
           → HasTop R (K + product_degree row) (a * l) p
       later_top end_of-Factor K a l first p ok powers top lead is = subst (HasTop R (K + 0) (a * l)) (sym is)
           (top-at K (K + 0) a (a * l) first (omega arith) (sym (mul-one a) ∙ ap (λ n. a * n) (sym lead)) top)
@@ -302,7 +305,7 @@ module _ (S : SeriesRing) (D : ℕ) where
           (v, next, is, step, later) = top-times (K + (0 + product_degree rest)) a b others l p at
           (top-at (K + product_degree rest) (K + (0 + product_degree rest)) _ _ p (omega arith) refl
           (later_top rest K (a * b) others next p ok.1
-          (power_bound-quotient R D K first v next (value_flat S D of v step.0 is) step.1 powers step.2)
+          (power_bound-quotient R D K first v next (value_flat S values flat D of v step.0 is) step.1 powers step.2)
           (top-quotient R D K a b (coefficient R v R.origin) first v next (number_value of v share.0 is)
           (share_inverts of v b is share) top step.2) leads later))
       later_top (more_of-Factor false of rest) K a l first p ok powers top (b, others, lead, leads, at)

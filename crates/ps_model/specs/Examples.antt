@@ -1,19 +1,22 @@
 -- Trees and jobs of the worked examples.
 --     x, y, number c      the variable, Y and a number
 --     added a b, subtracted a b, multiplied a b, divided a b, raised a e      a + b, a - b, a * b, a / b, a ^ e
+--     one_each      eight weights, each 1
+--     ring_modulo m      the ring of these weights, modulo m
 --     job m e roots      the job of the tree e modulo m, in one variable
 --     root value times      a root
 --     key n powers j      the key of n variables with these powers, 0 past their end, and Y^j
+--     degree_of S powers j      the degree of this key
 --     written S ts      the polynomial whose terms have these coefficients, powers and powers of Y
 --     all_written S tss      a list of such polynomials
-use Rattle.std.specs.Prelude.{ℕ, true, false, List, [], ◌∷◌, map}
+use Rattle.std.specs.Prelude.{ℕ, true, false, List, [], ◌∷◌, map, replicate}
 use Rattle.ps_model.specs.declared.expr.Expr.{Expr, Number, Name, MainVariable, Sum, Product, Power}
 use Rattle.ps_model.specs.declared.job.JobData.{JobData}
 use Rattle.ps_model.specs.declared.job.Root.{Root}
 use Rattle.ps_model.specs.Keys.{Key, powers_of}
 use Rattle.ps_model.specs.Polynomial.{polynomial}
-use Rattle.ps_model.specs.SeriesRing.{SeriesRing, ring, Poly}
-use Rattle.ps_model.specs.Job.{job_ring}
+use Rattle.ps_model.specs.SeriesRing.{SeriesRing, ring, degree, Poly}
+use Rattle.ps_model.specs.Job.{series_ring, job_ring}
 
 abbrev pub x : Expr
 x = Name 0
@@ -39,14 +42,23 @@ divided a b = Product (record { divide = false; of = a } ∷ record { divide = t
 abbrev pub raised : Expr → ℕ → Expr
 raised a e = Power a e
 
+abbrev pub one_each : List ℕ
+one_each = replicate 8 1
+
+abbrev pub ring_modulo : ℕ → SeriesRing
+ring_modulo m = series_ring m one_each
+
 abbrev pub job : ℕ → Expr → List Root → JobData
-job m e roots = record { modulus = m; n = 1; expr = e; roots = roots }
+job m e roots = record { modulus = m; n = 1; weights = one_each; expr = e; roots = roots }
 
 abbrev pub root : ℕ → ℕ → Root
 root value times = record { value = value; times = times }
 
 abbrev pub key : (n : ℕ) → List ℕ → ℕ → Key n
 key n powers j = record { powers = powers_of n powers; y = j }
+
+abbrev pub degree_of : SeriesRing → List ℕ → ℕ → ℕ
+degree_of S powers j = degree S (key S.variables powers j)
 
 abbrev pub written : (S : SeriesRing) → List (ℕ × List ℕ × ℕ) → Poly S
 written S ts = polynomial (ring S) (map (λ t. (key S.variables t.1 t.2, t.0)) ts)
@@ -191,6 +203,13 @@ abbrev pub two_variables : (S : SeriesRing) → Poly S
 two_variables S = written S ((6, 0 ∷ 2 ∷ [], 0) ∷ (1, 1 ∷ [], 1) ∷ (3, 1 ∷ [], 0) ∷ (1, 2 ∷ [], 0) ∷ (5, [], 0)
     ∷ (4, 1 ∷ 1 ∷ [], 0) ∷ (2, 0 ∷ 1 ∷ [], 0) ∷ [])
 
+-- x^3 + x*z + z*Y + z^2, and what of it has a degree of at most 3 where z has weight 3
+abbrev pub four_terms : (S : SeriesRing) → Poly S
+four_terms S = written S ((1, 3 ∷ [], 0) ∷ (1, 1 ∷ 1 ∷ [], 0) ∷ (1, 0 ∷ 1 ∷ [], 1) ∷ (1, 0 ∷ 2 ∷ [], 0) ∷ [])
+
+abbrev pub two_of_four : (S : SeriesRing) → Poly S
+two_of_four S = written S ((1, 3 ∷ [], 0) ∷ (1, 0 ∷ 1 ∷ [], 1) ∷ [])
+
 -- the job of Y^2 + x*Y + 1 modulo 101, whose roots are 10 and -10, and its factors up to degree 2
 abbrev pub quadratic_job : JobData
 quadratic_job = job 101 quadratic (root 10 1 ∷ root 91 1 ∷ [])
@@ -234,6 +253,7 @@ abbrev pub three_roots_job : JobData
 three_roots_job = record {
   modulus = 101;
   n = 2;
+  weights = one_each;
   expr = three_roots_tree;
   roots = root 0 1 ∷ root 1 1 ∷ root 2 1 ∷ [];
 }
@@ -245,6 +265,24 @@ three_roots_terms = ((1, [], 1) ∷ (51, 1 ∷ [], 0) ∷ [])
 
 abbrev pub three_roots_factors : List (Poly (job_ring three_roots_job))
 three_roots_factors = all_written (job_ring three_roots_job) three_roots_terms
+
+-- the same where z has weight 2: up to degree 1 no term with z is left
+abbrev pub weighted_job : JobData
+weighted_job = record {
+  modulus = 101;
+  n = 2;
+  weights = 1 ∷ 2 ∷ replicate 6 1;
+  expr = three_roots_tree;
+  roots = root 0 1 ∷ root 1 1 ∷ root 2 1 ∷ [];
+}
+
+abbrev pub weighted_terms : List (List (ℕ × List ℕ × ℕ))
+weighted_terms = ((1, [], 1) ∷ (51, 1 ∷ [], 0) ∷ [])
+    ∷ ((1, [], 1) ∷ (100, [], 0) ∷ (100, 1 ∷ [], 0) ∷ [])
+    ∷ ((1, [], 1) ∷ (99, [], 0) ∷ (51, 1 ∷ [], 0) ∷ []) ∷ []
+
+abbrev pub weighted_factors : List (Poly (job_ring weighted_job))
+weighted_factors = all_written (job_ring weighted_job) weighted_terms
 
 -- the job of Y^2 - 1 / (1 - x) modulo 7, whose roots are 1 and -1, and its factors up to degree 2
 abbrev pub geometric_job : JobData

@@ -1,7 +1,7 @@
 -- Jobs: the ring in which one is computed, what is wrong with one, and its factors.
---     series_ring m      polynomials in Y and eight variables of weight 1 modulo m; below 2 it
---         takes 2
---     job_ring job      those modulo the job's modulus
+--     series_ring m ws      polynomials in Y and eight variables with these weights modulo m; a
+--         weight that is 0 or missing is taken as 1, a modulus below 2 as 2
+--     job_ring job      those of the job's modulus and weights
 --     Fault      what may be wrong with a job, with the values that are told
 --     order f      the faults' one order, from 1
 --     IsFault job f      this is wrong with the job
@@ -13,43 +13,36 @@
 --         up to degree D is the value
 --     IsFactors job D fs      the same of the value of the job's tree: the list of factors of
 --         Hensel's lemma
-use Rattle.std.specs.Prelude.{◌≡◌, ◌≢◌, ℕ, zero, suc, ◌+◌, ◌-◌, ◌%◌, ◌<◌, ◌≤◌, ◌⊎◌, min, max, true, Some, List}
+use Rattle.std.specs.Prelude.{◌≡◌, ◌≢◌, ℕ, ◌+◌, ◌-◌, ◌%◌, ◌<◌, ◌≤◌, ◌⊎◌, min, max, Some, List}
 use Rattle.std.specs.Prelude.{slice_get}
 use Rattle.std.specs.Int.{IsGcd}
-use Rattle.std.proofs.Common.{lit<, arith}
-use Rattle.ps_model.specs.declared.expr.Expr.{Expr}
+use Rattle.std.proofs.Common.{arith}
 use Rattle.ps_model.specs.declared.job.JobData.{JobData}
 use Rattle.ps_model.specs.declared.job.Root.{Root}
-use Rattle.ps_model.specs.Keys.{Powers, ArePositive, y_key}
-use Rattle.ps_model.specs.Notation.{coefficient, constant_term, one, product, truncated}
+use Rattle.ps_model.specs.Keys.{weights_from, y_key}
+use Rattle.ps_model.specs.KeyLaws.{weights_from-positive}
+use Rattle.ps_model.specs.Notation.{coefficient, one, product, truncated}
 use Rattle.ps_model.specs.Bounds.{IsUnit}
 use Rattle.ps_model.specs.SeriesRing.{SeriesRing, Poly}
 use Rattle.ps_model.specs.Factors.{total_times, product_of, root_powers, EachIsFactor}
-use Rattle.ps_model.specs.Tree.{formal_degree, node_count, has_y, divisors}
+use Rattle.ps_model.specs.Tree.{formal_degree, node_count}
 use Rattle.ps_model.specs.Value.{IsValue, HasLead}
-
-abbrev pub ones : (n : ℕ) → Powers n
-ones zero = tt
-ones (suc n) = (1, ones n)
-
-pub ones-positive : (n : ℕ) → ArePositive n (ones n)
-ones-positive zero = tt
-ones-positive (suc n) = (lit< tt, ones-positive n)
+use Rattle.ps_model.specs.Divisions.{IsByY, Fails}
 
 pub two_at_least : (m : ℕ) → 2 ≤ max 2 m
 two_at_least m = omega arith
 
-unfoldable pub series_ring : ℕ → SeriesRing
-series_ring m = record {
+unfoldable pub series_ring : ℕ → List ℕ → SeriesRing
+series_ring m ws = record {
   variables = 8;
-  weights = ones 8;
-  positive = ones-positive 8;
+  weights = weights_from 8 ws;
+  positive = weights_from-positive 8 ws;
   modulus = max 2 m;
   at_least_two = two_at_least m;
 }
 
 abbrev pub job_ring : JobData → SeriesRing
-job_ring job = series_ring job.modulus
+job_ring job = series_ring job.modulus job.weights
 
 pub data Fault : Type 0 where
   DividesByY : ℕ → Fault
@@ -78,20 +71,6 @@ IsLeast P k = P k × ((i : ℕ) → P i → k ≤ i)
 abbrev pub told_count : ℕ → ℕ
 told_count n = min n 4294967295
 
--- d is behind the sign of division k, counted from 1
-abbrev pub IsDivisor : Expr → ℕ → Expr → Type 0
-IsDivisor e k d = (0 < k) × (slice_get (divisors e) (k - 1) ≡ Some d)
-
--- the division's divisor has Y
-abbrev pub IsByY : Expr → ℕ → Type 0
-IsByY e k = (d : Expr) × IsDivisor e k d × (has_y d ≡ true)
-
--- the division fails: its divisor has a value at the origin, which is no unit
-abbrev pub Fails : JobData → ℕ → ℕ → Type 0
-Fails job k value =
-    (d : Expr) × IsDivisor job.expr k d × (v : Poly (job_ring job)) × IsValue (job_ring job) 0 d v
-    × (value ≡ constant_term v) × (IsUnit job.modulus value → ⊥)
-
 -- the roots i and j, counted from 1, have a difference that is no unit
 abbrev pub IsPairTooNear : JobData → ℕ → ℕ → ℕ → Type 0
 IsPairTooNear job i j difference =
@@ -117,7 +96,8 @@ IsFault job (TooManyNodes count) = (4096 < node_count job.expr) × (count ≡ to
 IsFault job (DegreeTooLarge degree) = (32 < formal_degree job.expr) × (degree ≡ told_count (formal_degree job.expr))
 IsFault job NotMonic = HasLead (job_ring job) job.expr 1 → ⊥
 IsFault job (NotAUnit division value gcd) =
-    Fails job division value × IsLeast (λ k. (c : ℕ) × Fails job k c) division × IsGcd value job.modulus gcd
+    Fails (job_ring job) job.expr division value × IsLeast (λ k. (c : ℕ) × Fails (job_ring job) job.expr k c) division
+    × IsGcd value job.modulus gcd
 IsFault job (DegreeMismatch degree total) =
     (formal_degree job.expr ≢ total_times job.roots)
     × (degree ≡ told_count (formal_degree job.expr)) × (total ≡ told_count (total_times job.roots))

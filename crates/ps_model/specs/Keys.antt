@@ -3,6 +3,7 @@
 --     numbers n x      their list
 --     powers_of n xs      the first n numbers of a list, 0 past its end
 --     no_powers n      n times 0
+--     weights_from n ws      the first n numbers of a list as weights: 1 where one is 0, or past its end
 --     add_powers n x z      the sums place by place
 --     weighted n w x      the sum of weight times power; 0 of no variable
 --     ArePositive n w      no weight is 0
@@ -11,7 +12,7 @@
 --     y_key n j      the key of Y^j
 --     key_numbers n k      the power of Y, then the powers
 --     key_compare n      keys by falling power of Y, then of the first variable, and so on
-use Rattle.std.specs.Prelude.{ℕ, zero, suc, ◌+◌, ◌*◌, ◌<◌, List, [], ◌∷◌}
+use Rattle.std.specs.Prelude.{ℕ, zero, suc, ◌+◌, ◌*◌, ◌<◌, max, List, [], ◌∷◌}
 use Rattle.std.specs.Ordering.{nat_cmp, on, flip_args}
 use Rattle.std.specs.Cmp.Lexicographic.{slice_cmp}
 use Rattle.std.specs.declared.cmp.Ordering.{Ordering}
@@ -28,6 +29,11 @@ abbrev pub powers_of : (n : ℕ) → List ℕ → Powers n
 powers_of zero xs = tt
 powers_of (suc n) [] = (0, powers_of n [])
 powers_of (suc n) (x ∷ xs) = (x, powers_of n xs)
+
+abbrev pub weights_from : (n : ℕ) → List ℕ → Powers n
+weights_from zero ws = tt
+weights_from (suc n) [] = (1, weights_from n [])
+weights_from (suc n) (w ∷ ws) = (max 1 w, weights_from n ws)
 
 abbrev pub no_powers : (n : ℕ) → Powers n
 no_powers zero = tt

@@ -19,10 +19,15 @@ pub mod Props
 pub mod Plain
 pub mod Tree
 pub mod Value
-pub mod Job
 pub mod Divisions
+pub mod Job
 pub mod AcceptedJob
 pub mod PlainLists
 pub mod PlainPolynomial
 pub mod BlockText
 pub mod Examples
+pub mod Names
+pub mod Tokens
+pub mod Grammar
+pub mod FirstFault
+pub mod Spelling

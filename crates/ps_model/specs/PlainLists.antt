@@ -7,8 +7,8 @@
 --     HasProductsInRange es fs      so does each sum of a key of es and one of fs
 --     added m es p      the formal sum es added to the map p, modulo m
 --     multiplied e es      the formal sum es times the entry e
---     total_degree k      the degree where each variable has weight 1
---     cut_map d p      the entries of degree at most d
+--     plain_degree ws k      the degree by these weights; one that is 0 or missing counts as 1
+--     cut_map ws d p      the entries of degree at most d
 use Rattle.std.specs.Prelude.{◌≡◌, ℕ, ◌+◌, ◌*◌, ◌%◌, ◌^◌, ◌<◌, ◌≤◌, nat_le, List, [], ◌∷◌, map, length}
 use Rattle.std.specs.Prelude.{slice_index_or}
 use Rattle.std.specs.Prelude.{Result, MatchResult}
@@ -16,9 +16,8 @@ use Rattle.std.specs.List.{All}
 use Rattle.std.specs.FinMap.{FinMap, from_entries, retain_keys}
 use Rattle.std.specs.declared.cmp.Ordering.TheVariants.{Less, Equal, Greater}
 use Rattle.std.specs.declared.cmp.Ordering.{Ordering}
-use Rattle.ps_model.specs.Keys.{Key, key_compare, numbers, add_keys, weighted}
+use Rattle.ps_model.specs.Keys.{Key, key_compare, numbers, weights_from, add_keys, weighted}
 use Rattle.ps_model.specs.FiniteMaps.{put}
-use Rattle.ps_model.specs.Job.{ones}
 use Rattle.ps_model.specs.Plain.{key_of, entry_of, value_in}
 use Rattle.ps_model.specs.declared.plain.PlainTerm.{PlainTerm}
 
@@ -50,8 +49,8 @@ added m (e ∷ es) p = put (key_compare 8) (added m es p) e.0 ((e.1 + value_in (
 abbrev pub multiplied : Key 8 × ℕ → List (Key 8 × ℕ) → List (Key 8 × ℕ)
 multiplied e es = map (λ f. (add_keys 8 e.0 f.0, e.1 * f.1)) es
 
-unfoldable pub total_degree : Key 8 → ℕ
-total_degree k = weighted 8 (ones 8) k.powers
+unfoldable pub plain_degree : List ℕ → Key 8 → ℕ
+plain_degree ws k = weighted 8 (weights_from 8 ws) k.powers
 
-abbrev pub cut_map : ℕ → FinMap (key_compare 8) ℕ → FinMap (key_compare 8) ℕ
-cut_map d p = retain_keys p (λ k. nat_le (total_degree k) d)
+abbrev pub cut_map : List ℕ → ℕ → FinMap (key_compare 8) ℕ → FinMap (key_compare 8) ℕ
+cut_map ws d p = retain_keys p (λ k. nat_le (plain_degree ws k) d)

@@ -1,5 +1,5 @@
 -- Maps as polynomials modulo m, and the bounds of their entries.
---     plain_polynomial m p      the polynomial of a map in the ring series_ring m
+--     plain_polynomial m ws p      the polynomial of a map in the ring series_ring m ws
 --     HasResiduesBelow m p      each coefficient of p is below m
 --     HasValuesBelow m p      so is the value at each key, 0 where it is absent
 --     y_part k p      the entries with Y^k and above
@@ -8,7 +8,7 @@
 --     AreAtMost n x b      no power of x is above that of b
 --     IsWithin x b      nor is the power of Y
 --     HasKeysWithin b p      each key of p is within b
---     small_key      the third powers of the first variable and of Y
+--     small_key      the third powers of the first two variables and of Y
 use Rattle.std.specs.Prelude.{◌≡◌, ℕ, zero, suc, ◌<◌, ◌≤◌, max, Some, nat_le, List, [], ◌∷◌}
 use Rattle.std.specs.List.{All}
 use Rattle.std.specs.FinMap.{FinMap, get, entries, retain_keys}
@@ -18,9 +18,9 @@ use Rattle.ps_model.specs.Notation.{of_map}
 use Rattle.ps_model.specs.Job.{series_ring}
 use Rattle.ps_model.specs.Plain.{value_in}
 
-unfoldable pub plain_polynomial : (m : ℕ) → FinMap (key_compare 8) ℕ → Poly (series_ring m)
+unfoldable pub plain_polynomial : (m : ℕ) (ws : List ℕ) → FinMap (key_compare 8) ℕ → Poly (series_ring m ws)
 unfolding series_ring
-plain_polynomial m p = of_map {R = ring (series_ring m)} p
+plain_polynomial m ws p = of_map {R = ring (series_ring m ws)} p
 
 abbrev pub HasResiduesBelow : ℕ → FinMap (key_compare 8) ℕ → Type 0
 HasResiduesBelow m p = All (λ e. e.1 < m) (entries p)
@@ -58,4 +58,4 @@ pub record HasKeysWithin (b : Key 8) (p : FinMap (key_compare 8) ℕ) : Type 0 w
   pub at : (k : Key 8) (c : ℕ) → get p k ≡ Some c → IsWithin k b
 
 abbrev pub small_key : Key 8
-small_key = record { powers = (3, no_powers 7); y = 3 }
+small_key = record { powers = (3, (3, no_powers 6)); y = 3 }

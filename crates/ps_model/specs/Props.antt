@@ -5,7 +5,8 @@
 --     IsUnit-IsProp, IsPreparable-IsProp, IsPrepared-IsProp      the facts on pairs
 --     IsFactor-IsProp, EachIsFactor-IsProp, IsFactorList-IsProp, AreFactorsOf-IsProp      the facts
 --         on factors
---     IsValidTree-IsProp, IsAcceptedRoot-IsProp, IsAccepted-IsProp      the facts on trees and jobs
+--     IsValidTree-IsProp, AreWeights-IsProp, IsAcceptedRoot-IsProp, IsAccepted-IsProp      the facts
+--         on trees and jobs
 use Rattle.std.specs.Prelude.{◌≡◌, ℕ, ◌*◌, ◌%◌, ◌<◌, List, [], ◌∷◌}
 use Rattle.std.proofs.Common.{sym, ◌∙◌, ap, arith}
 use Rattle.std.proofs.Math.Nat.{one-mul, mod-eq_of_lt}
@@ -33,7 +34,7 @@ use Rattle.ps_model.specs.declared.expr.Expr.{Row_of-Factor, end_of-Factor, more
 use Rattle.ps_model.specs.declared.job.JobData.{JobData}
 use Rattle.ps_model.specs.Tree.{IsValidTree, AreSummands, AreValidSummands, AreFactors, AreValidFactors}
 use Rattle.ps_model.specs.Job.{job_ring, AreFactorsOf}
-use Rattle.ps_model.specs.AcceptedJob.{IsAcceptedRoot, IsAccepted}
+use Rattle.ps_model.specs.AcceptedJob.{AreWeights, IsAcceptedRoot, IsAccepted}
 
 abbrev pub coded_key : (n : ℕ) → Coded (Key n)
 coded_key n = coded_via (coded_list coded_ℕ) (key_numbers n) (same_key_numbers n)
@@ -135,8 +136,11 @@ mutual
   AreValidFactors-IsProp names (more_of-Factor divide of rest) =
       hlevel (IsValidTree-IsProp names of, AreValidFactors-IsProp names rest)
 
+pub AreWeights-IsProp : (n : ℕ) (ws : List ℕ) → IsProp (AreWeights n ws)
+AreWeights-IsProp n ws = hlevel (ℕ_set, le_prop)
+
 pub IsAcceptedRoot-IsProp : (m : ℕ) (r : Root) → IsProp (IsAcceptedRoot m r)
 IsAcceptedRoot-IsProp m r = hlevel le_prop
 
 pub IsAccepted-IsProp : (job : JobData) → IsProp (IsAccepted job)
-IsAccepted-IsProp job = hlevel (le_prop, IsValidTree-IsProp, IsAcceptedRoot-IsProp)
+IsAccepted-IsProp job = hlevel (le_prop, AreWeights-IsProp, IsValidTree-IsProp, IsAcceptedRoot-IsProp)

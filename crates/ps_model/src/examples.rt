@@ -4,13 +4,13 @@ ghost use Rattle.std.specs.Prelude.{◌≡◌, ℕ, List, [], ◌∷◌, ◌++�
 ghost use Rattle.ps_model.specs.Tree.{formal_degree, node_count, has_y, divisors, IsValidTree};
 ghost use Rattle.ps_model.specs.Value.{HasLead, IsValue};
 ghost use Rattle.ps_model.specs.SeriesRing.{Poly};
-ghost use Rattle.ps_model.specs.Notation.{zero, one, shifted};
+ghost use Rattle.ps_model.specs.Notation.{zero, one, shifted, truncated};
 ghost use Rattle.ps_model.specs.BlockText.{power_line, block_text};
 ghost use Rattle.ps_model.specs.Job.{series_ring, job_ring, IsFactors, IsFirstFault};
 ghost use Rattle.ps_model.specs.Job.{IsValidJob, DividesByY};
 ghost use Rattle.ps_model.specs.Job.{TooManyNodes, DegreeTooLarge, NotMonic, NotAUnit};
 ghost use Rattle.ps_model.specs.Job.{DegreeMismatch, NotApart, RootsMismatch};
-ghost use Rattle.ps_model.specs.Examples.{job, root};
+ghost use Rattle.ps_model.specs.Examples.{ring_modulo, job, root};
 ghost use Rattle.ps_model.specs.Examples.{x, y, number, divided, raised, quadratic, y_plus_one};
 ghost use Rattle.ps_model.specs.Examples.{tower, halved_cube, y_over_series, double_division};
 ghost use Rattle.ps_model.specs.Examples.{lone_summand, lone_minus, lone_factor, divided_first};
@@ -25,7 +25,8 @@ ghost use Rattle.ps_model.specs.Examples.{double_root_start, two_variables};
 ghost use Rattle.ps_model.specs.Examples.{quadratic_job, quadratic_factors, split_factors_to_4};
 ghost use Rattle.ps_model.specs.Examples.{cubic_job, cubic_factors, three_roots_job};
 ghost use Rattle.ps_model.specs.Examples.{three_roots_factors, geometric_job, geometric_factors};
-ghost use Rattle.ps_model.specs.Examples.{halved_job, halved_factors};
+ghost use Rattle.ps_model.specs.Examples.{halved_job, halved_factors, degree_of};
+ghost use Rattle.ps_model.specs.Examples.{four_terms, two_of_four, weighted_job, weighted_factors};
 
 /// Formal degrees: a divisor leaves the degree, and what cancels still counts.
 pub fn degrees()
@@ -73,13 +74,13 @@ pub fn valid_trees()
 /// Leading numbers modulo 7, which the form of a tree tells: what cancels leaves 0, a divisor that
 /// is a number counts by its inverse, and one with a variable leaves it unknown.
 pub fn leading_numbers()
-    ensures quadratic { HasLead (series_ring 7) quadratic 1 }
-    ensures two { HasLead (series_ring 7) two_y_squared 2 }
-    ensures not_one { HasLead (series_ring 7) two_y_squared 1 → ⊥ }
-    ensures vanishing { HasLead (series_ring 7) vanishing_cube 0 }
-    ensures vanishes { HasLead (series_ring 7) vanishing_cube 1 → ⊥ }
-    ensures unknown { (l : ℕ) → HasLead (series_ring 7) y_over_series l → ⊥ }
-    ensures halved { HasLead (series_ring 7) halved 1 }
+    ensures quadratic { HasLead (ring_modulo 7) quadratic 1 }
+    ensures two { HasLead (ring_modulo 7) two_y_squared 2 }
+    ensures not_one { HasLead (ring_modulo 7) two_y_squared 1 → ⊥ }
+    ensures vanishing { HasLead (ring_modulo 7) vanishing_cube 0 }
+    ensures vanishes { HasLead (ring_modulo 7) vanishing_cube 1 → ⊥ }
+    ensures unknown { (l : ℕ) → HasLead (ring_modulo 7) y_over_series l → ⊥ }
+    ensures halved { HasLead (ring_modulo 7) halved 1 }
 {}
 
 /// Faults that the form of a tree has, each the first of its job.
@@ -137,26 +138,26 @@ pub fn valid_job()
 /// Values up to degree 2: a product that vanishes modulo 6, the quotient 1 / (1 - x), a number as
 /// its residue, and the power 0; and divisions without a value.
 pub fn values()
-    ensures vanishing { IsValue (series_ring 6) 2 two_x_three_x zero }
-    ensures vanishes { (v : Poly (series_ring 6)) → IsValue (series_ring 6) 2 two_x_three_x v →
+    ensures vanishing { IsValue (ring_modulo 6) 2 two_x_three_x zero }
+    ensures vanishes { (v : Poly (ring_modulo 6)) → IsValue (ring_modulo 6) 2 two_x_three_x v →
         v ≡ zero }
-    ensures geometric { IsValue (series_ring 7) 2 geometric
-        (written (series_ring 7) ((1, [], 0) ∷ (1, 1 ∷ [], 0) ∷ (1, 2 ∷ [], 0) ∷ [])) }
-    ensures residue { IsValue (series_ring 7) 2 (number 8) one }
-    ensures power_zero { IsValue (series_ring 7) 2 (raised (number 0) 0) one }
-    ensures by_x { (v : Poly (series_ring 7)) → IsValue (series_ring 7) 2 (divided x x) v → ⊥ }
-    ensures by_y { (v : Poly (series_ring 7)) → IsValue (series_ring 7) 2 (divided y y) v → ⊥ }
+    ensures geometric { IsValue (ring_modulo 7) 2 geometric
+        (written (ring_modulo 7) ((1, [], 0) ∷ (1, 1 ∷ [], 0) ∷ (1, 2 ∷ [], 0) ∷ [])) }
+    ensures residue { IsValue (ring_modulo 7) 2 (number 8) one }
+    ensures power_zero { IsValue (ring_modulo 7) 2 (raised (number 0) 0) one }
+    ensures by_x { (v : Poly (ring_modulo 7)) → IsValue (ring_modulo 7) 2 (divided x x) v → ⊥ }
+    ensures by_y { (v : Poly (ring_modulo 7)) → IsValue (ring_modulo 7) 2 (divided y y) v → ⊥ }
 {}
 
 /// The shift, Y + c in place of Y: of Y^2 by 3 modulo 7, and back; and of x * Y, modulo 15.
 pub fn shifts()
-    ensures square { shifted 3 (written (series_ring 7) ((1, [], 2) ∷ []))
-        ≡ written (series_ring 7) ((2, [], 0) ∷ (6, [], 1) ∷ (1, [], 2) ∷ []) }
-    ensures back { shifted 4 (written (series_ring 7)
+    ensures square { shifted 3 (written (ring_modulo 7) ((1, [], 2) ∷ []))
+        ≡ written (ring_modulo 7) ((2, [], 0) ∷ (6, [], 1) ∷ (1, [], 2) ∷ []) }
+    ensures back { shifted 4 (written (ring_modulo 7)
         ((2, [], 0) ∷ (6, [], 1) ∷ (1, [], 2) ∷ []))
-        ≡ written (series_ring 7) ((1, [], 2) ∷ []) }
-    ensures variable { shifted 10 (written (series_ring 15) ((1, 1 ∷ [], 1) ∷ []))
-        ≡ written (series_ring 15) ((10, 1 ∷ [], 0) ∷ (1, 1 ∷ [], 1) ∷ []) }
+        ≡ written (ring_modulo 7) ((1, [], 2) ∷ []) }
+    ensures variable { shifted 10 (written (ring_modulo 15) ((1, 1 ∷ [], 1) ∷ []))
+        ≡ written (ring_modulo 15) ((10, 1 ∷ [], 0) ∷ (1, 1 ∷ [], 1) ∷ []) }
 {}
 
 /// The factors of a job modulo 15, up to degree 1, and no other list; and of one with a double
@@ -182,6 +183,19 @@ pub fn more_factors()
 pub fn factors_with_divisions()
     ensures series { IsFactors geometric_job 2 geometric_factors }
     ensures number { IsFactors halved_job 1 halved_factors }
+{}
+
+/// Variables of the weights 1 and 3, or 2: degrees, where a weight 0 and a missing one count as 1; a
+/// truncation, which keeps z*Y; the factors of a job up to degree 1; and the order of a line's terms.
+pub fn weights()
+    ensures degree { degree_of (series_ring 7 (1 ∷ 3 ∷ [])) (2 ∷ 1 ∷ []) 4 ≡ 5 }
+    ensures least { degree_of (series_ring 7 (0 ∷ 3 ∷ [])) (2 ∷ 1 ∷ 4 ∷ []) 0 ≡ 9 }
+    ensures truncated { truncated 3 (four_terms (series_ring 7 (1 ∷ 3 ∷ [])))
+        ≡ two_of_four (series_ring 7 (1 ∷ 3 ∷ [])) }
+    ensures factors { IsFactors weighted_job 1 weighted_factors }
+    ensures line { power_line (series_ring 7 (1 ∷ 2 ∷ [])) (codes "x" ∷ codes "z" ∷ []) 2
+        (two_variables (series_ring 7 (1 ∷ 2 ∷ []))) 0
+        ≡ codes "Y^0: 5 + 3*x + 1*x^2 + 2*z\n" }
 {}
 
 /// The blocks of those factors; and a line with two variables, whose terms stand by degree, then by
@@ -211,7 +225,7 @@ pub fn blocks()
         ++ codes "Y^0: 91 + 51*x + 77*x^2\n"
         ++ codes "factor 2 root 91 times 1\n" ++ codes "Y^1: 1\n"
         ++ codes "Y^0: 10 + 51*x + 24*x^2\n" }
-    ensures line { power_line (series_ring 7) (codes "x" ∷ codes "z" ∷ []) 2
-        (two_variables (series_ring 7)) 0
+    ensures line { power_line (ring_modulo 7) (codes "x" ∷ codes "z" ∷ []) 2
+        (two_variables (ring_modulo 7)) 0
         ≡ codes "Y^0: 5 + 3*x + 2*z + 1*x^2 + 4*x*z + 6*z^2\n" }
 {}

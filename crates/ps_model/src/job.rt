@@ -8,12 +8,13 @@ pub struct Root {
     pub times: u32,
 }
 
-/// What is to be factored: the polynomial that the tree stands for, in Y and n variables modulo a
-/// number, by its roots at the origin.
+/// What is to be factored: the polynomial that the tree stands for, in Y and n weighted variables
+/// modulo a number, by its roots at the origin. Past the n-th the weights are 1.
 #[derive(Debug, Drop)]
 pub struct JobData {
     pub modulus: u64,
     pub n: u32,
+    pub weights: [u16; 8],
     pub expr: Expr,
     pub roots: Items<Root>,
 }

@@ -149,6 +149,10 @@ impl Modulus {
 }
 
 impl fmt::Display for BadModulus {
+    ghost use Rattle.std.specs.Prelude.{Some, codes};
+
+    ghost output = { λ _. Some (codes "a modulus is from 2 to 2^63 - 1") };
+
     fn fmt<W: fmt::Write>(&self, f: &mut fmt::Formatter<W>) -> fmt::Result {
         write!(f, "a modulus is from 2 to 2^63 - 1")
     }
@@ -157,6 +161,10 @@ impl fmt::Display for BadModulus {
 impl Error for BadModulus {}
 
 impl fmt::Display for NoInverse {
+    ghost use Rattle.std.specs.Prelude.{Some, ◌++◌, codes, decimal};
+
+    ghost output = { λ e. Some (codes "no inverse: common divisor " ++ decimal e.gcd) };
+
     fn fmt<W: fmt::Write>(&self, f: &mut fmt::Formatter<W>) -> fmt::Result {
         write!(f, "no inverse: common divisor {}", self.gcd)
     }

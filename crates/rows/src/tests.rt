@@ -84,3 +84,14 @@ fn a_row_without_room_stays_empty(rt: HostRuntime) -> Result<(), Fail> {
     assert_eq!(rt; row.capacity(), 0);
     Ok(())
 }
+
+#[test]
+fn the_largest_row_is_filled(rt: HostRuntime) -> Result<(), Fail> {
+    let row = numbers(rt.alloc(), 7, 4096)?;
+    assert_eq!(rt; row.len(), 4096);
+    assert_eq!(rt; row.capacity(), 4096);
+    for (r, number) in [(0, 7), (4094, 4101), (4095, 4102)] {
+        assert_eq!(rt; number_at(&row, r), number);
+    }
+    Ok(())
+}

@@ -18,8 +18,8 @@ use Rattle.ps_model.specs.Prepared.{IsPreparable}
 use Rattle.ps_model.specs.Rows.{IsRowOf, part_of}
 use Rattle.ps_model.specs.SeriesRing.{Poly, ring as ring_of}
 use Rattle.ps_model.proofs.Coefficients.{itself}
-use Rattle.ps_model.proofs.JobRoots.{same_modulus}
-use Rattle.ps_model.proofs.JobValues.{accepted_factors}
+use Rattle.ps_model.proofs.JobRoots.{same_modulus, accepted_lawful}
+use Rattle.ps_model.proofs.JobValues.{lawful_factors}
 use Rattle.ps_model.proofs.OfMap.{coefficient-of_map}
 use Rattle.ps_model.proofs.Origin.{coefficient-zero}
 use Rattle.ps_model.proofs.PreparedRows.{coefficient-slice_at}
@@ -29,7 +29,7 @@ use Rattle.parts.specs.declared.rings.Ring.{Ring}
 use Rattle.parts.specs.declared.terms.Term.{Term}
 use Rattle.parts.specs.JobRows.{IsRingOf}
 use Rattle.parts.specs.PartValue.{PartValue, IsPartOf, IsEntryOf}
-use Rattle.parts.specs.Rings.{modulus_of, weights_of}
+use Rattle.parts.specs.Rings.{modulus_of, weights_of, eight_weights}
 use Rattle.parts.specs.RowsOfParts.{part_in}
 use Rattle.parts.specs.Series.{series, polynomial_in, polynomial_modulo, maps_modulo, constant_of}
 use Rattle.parts.specs.Terms.{entry_of, TermsInOrder}
@@ -42,39 +42,39 @@ use Rattle.stages.specs.Titles.{TitleValue, times_at, later_times}
 use Rattle.stages.proofs.Prepares.{before, facts}
 
 -- the polynomial at a place of a row
-part_here : (m : ℕ) (row : List PartValue) (j : ℕ) → part_of (ring_of (series_ring m)) (maps_modulo m row) j
-    ≡ polynomial_modulo m (part_in row j).map
+part_here : (m : ℕ) (ws : List ℕ) (row : List PartValue) (j : ℕ) → part_of (ring_of (series_ring m ws)) (maps_modulo m ws row) j
+    ≡ polynomial_modulo m ws (part_in row j).map
 unfolding series_ring polynomial_modulo maps_modulo
-part_here m [] j = refl
-part_here m (p ∷ row) zero = refl
-part_here m (p ∷ row) (suc j) = part_here m row j
+part_here m ws [] j = refl
+part_here m ws (p ∷ row) zero = refl
+part_here m ws (p ∷ row) (suc j) = part_here m ws row j
 
 -- modulo m
-abbrev CanAt : ℕ → ℕ → List PartValue → Type 0
-CanAt m k row = ((i : ℕ) → i < k → polynomial_modulo m (part_in row i).map ≡ nought (ring_of (series_ring m)))
-    × IsUnit m (constant_term (polynomial_modulo m (part_in row k).map))
+abbrev CanAt : ℕ → List ℕ → ℕ → List PartValue → Type 0
+CanAt m ws k row = ((i : ℕ) → i < k → polynomial_modulo m ws (part_in row i).map ≡ nought (ring_of (series_ring m ws)))
+    × IsUnit m (constant_term (polynomial_modulo m ws (part_in row k).map))
 
-can_at : (m k q : ℕ) (G : Poly (series_ring m)) (row : List PartValue) → (series_ring m).modulus ≡ m
-    → IsPreparable G k q → IsRowOf (k + q) 0 G (maps_modulo m row) → CanAt m k row
-can_at m k q G row same can is = (
-  λ i lt. sym (part_here m row i) ∙ is.slices i (omega arith) ∙ slice_at-constant (ring_of (series_ring m)) i G
-      ∙ ap (λ c. monomial (ring_of (series_ring m)) c (ring_of (series_ring m)).origin) (can.lower i lt)
-      ∙ monomial-nothing (ring_of (series_ring m)) (ring_of (series_ring m)).origin,
-  subst (λ n. IsUnit n (constant_term (polynomial_modulo m (part_in row k).map))) same
-      (subst (IsUnit (series_ring m).modulus) (sym (constant)) can.unit),
+can_at : (m : ℕ) (ws : List ℕ) (k q : ℕ) (G : Poly (series_ring m ws)) (row : List PartValue) → (series_ring m ws).modulus ≡ m
+    → IsPreparable G k q → IsRowOf (k + q) 0 G (maps_modulo m ws row) → CanAt m ws k row
+can_at m ws k q G row same can is = (
+  λ i lt. sym (part_here m ws row i) ∙ is.slices i (omega arith) ∙ slice_at-constant (ring_of (series_ring m ws)) i G
+      ∙ ap (λ c. monomial (ring_of (series_ring m ws)) c (ring_of (series_ring m ws)).origin) (can.lower i lt)
+      ∙ monomial-nothing (ring_of (series_ring m ws)) (ring_of (series_ring m ws)).origin,
+  subst (λ n. IsUnit n (constant_term (polynomial_modulo m ws (part_in row k).map))) same
+      (subst (IsUnit (series_ring m ws).modulus) (sym (constant)) can.unit),
 )
   where
-    constant : constant_term (polynomial_modulo m (part_in row k).map)
-        ≡ coefficient (ring_of (series_ring m)) G ((ring_of (series_ring m)).y k)
-    constant = ap (λ p. coefficient (ring_of (series_ring m)) p (ring_of (series_ring m)).origin)
-        (sym (part_here m row k) ∙ is.slices k (omega arith))
-        ∙ coefficient-slice_at (ring_of (series_ring m)) k G
+    constant : constant_term (polynomial_modulo m ws (part_in row k).map)
+        ≡ coefficient (ring_of (series_ring m ws)) G ((ring_of (series_ring m ws)).y k)
+    constant = ap (λ p. coefficient (ring_of (series_ring m ws)) p (ring_of (series_ring m ws)).origin)
+        (sym (part_here m ws row k) ∙ is.slices k (omega arith))
+        ∙ coefficient-slice_at (ring_of (series_ring m ws)) k G
 
 -- the row of a polynomial that can be prepared
-pub can_begin : (ring : Ring) (m k q : ℕ) (G : Poly (series_ring m)) (row : List PartValue) → modulus_of ring ≡ m
-    → (series_ring m).modulus ≡ m → IsPreparable G k q → IsRowOf (k + q) 0 G (maps_modulo m row) → CanBegin ring k row
-can_begin ring m k q G row modulus same can is =
-    let at = subst (λ n. CanAt n k row) (sym modulus) (can_at m k q G row same can is) in
+pub can_begin : (ring : Ring) (m : ℕ) (ws : List ℕ) (k q : ℕ) (G : Poly (series_ring m ws)) (row : List PartValue) → modulus_of ring ≡ m
+    → eight_weights ring ≡ ws → (series_ring m ws).modulus ≡ m → IsPreparable G k q → IsRowOf (k + q) 0 G (maps_modulo m ws row) → CanBegin ring k row
+can_begin ring m ws k q G row modulus weights same can is =
+    let at = subst (λ (p : ℕ × List ℕ). CanAt p.0 p.1 k row) (λ i. (sym modulus i, sym weights i)) (can_at m ws k q G row same can is) in
     record { lower = at.0; unit = at.1 }
 
 -- what a part of which nothing is left has at a key
@@ -130,9 +130,9 @@ module _ (title : TitleValue) (ok : IsAccepted title.job) (lt : title.stage < le
       → AreSlices title.job (times_at title.job title.stage + later_times title.job title.stage) 0
       (before title ok lt 0) row
       → CanBegin ring (times_at title.job title.stage) row
-  first_row row are = can_begin ring title.job.modulus (times_at title.job title.stage)
-      (later_times title.job title.stage) (before title ok lt 0 list.one_value) row ring_is.0 (same_modulus title.job ok.modulus.0)
+  first_row row are = can_begin ring title.job.modulus title.job.weights (times_at title.job title.stage)
+      (later_times title.job title.stage) (before title ok lt 0 list.one_value) row ring_is.0 ring_is.2 (same_modulus title.job ok.modulus.0)
       (facts title ok lt 0 list.one_value list.meets).can (are.slices list.one_value list.meets)
     where
       list : ExactlyOne (IsFactors title.job 0)
-      list = accepted_factors title.job ok 0
+      list = lawful_factors title.job (accepted_lawful title.job ok) 0

@@ -109,10 +109,18 @@ raised_still n old new t u is have =
     let same = raised_same n old new is.grow have in
     (same, (let ticks = is.ticks in let sums = ap (sum_by prepared_of) same in omega arith))
 
--- a refusal comes only where something lacked
-pub raised_lacks : {T : Type 0} (see : T → StageState) (n r : ℕ) (old : List StageState) (xs items : List T)
-    → xs ≡ items → r < n → AllGrow n old (map see items) → (AllHave (r + 1) (map see xs) → ⊥) → AllHave n old → ⊥
-raised_lacks see n r old xs items seen lt grow lacks have =
+-- where all is there it is so at the next round
+pub have_now : {T : Type 0} (see : T → StageState) (n r : ℕ) (old : List StageState) (xs items : List T)
+    → xs ≡ items → r < n → AllGrow n old (map see items) → AllHave n old → AllHave (r + 1) (map see xs)
+have_now see n r old xs items seen lt grow have =
     let more = have_grown n n old (map see items) have grow in
-    lacks (subst (λ l. AllHave (r + 1) (map see l)) (sym seen)
-    (λ s d low. let enough = more s d low in omega arith))
+    subst (λ l. AllHave (r + 1) (map see l)) (sym seen) (λ s d low. let enough = more s d low in omega arith)
+
+-- a raise that begins
+pub not_raised : (n : ℕ) (old : List StageState) (t : ℕ) → AreRaised n old old t t
+not_raised n old t = record { grow = all_same n old; falling = λ first. first; ticks = refl }
+
+-- what all stages of a vector have, its slice has too, and the other way round
+pub all_have : {T : Type 0} (see : T → StageState) (r : ℕ) (xs items : List T) → xs ≡ items → AllHave r (map see items)
+    → AllHave r (map see xs)
+all_have see r xs items seen have = subst (λ l. AllHave r (map see l)) (sym seen) have

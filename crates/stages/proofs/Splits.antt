@@ -30,11 +30,12 @@ use Rattle.ps_model.proofs.Stages.{product_from-truncated, prepared-same}
 use Rattle.parts.specs.declared.rings.Ring.{Ring}
 use Rattle.parts.specs.JobRows.{IsRingOf}
 use Rattle.parts.specs.PartValue.{PartValue}
-use Rattle.parts.specs.Rings.{modulus_of}
+use Rattle.parts.specs.Rings.{modulus_of, eight_weights}
 use Rattle.parts.specs.RowsOfParts.{IsRowOfParts, AreRowsOfParts}
 use Rattle.parts.specs.Series.{maps_modulo}
 use Rattle.prepare.specs.Calls.{Begins, Adds}
 use Rattle.prepare.specs.PrepValue.{PrepValue, degrees_of}
+use Rattle.prepare.proofs.Stepped.{rows_more}
 use Rattle.taylor.specs.Shifts.{IsShiftedRow}
 use Rattle.stages.specs.Titles.{TitleValue, no_root, root_at, times_at, later_times}
 use Rattle.stages.specs.Slices.{AreSlices, factor_at, IsUpstream, HasShift}
@@ -64,31 +65,31 @@ negative_is : (m c : ℕ) → c < m → (c + (m - c) % m) % m ≡ 0
 negative_is m c lt = add-mod-mod c (m - c) m ∙ ap (λ n. n % m) (omega arith) ∙ mod_self m
 
 -- what a pair is promised for, modulo m
-abbrev Pairs : (m k q d r : ℕ) → List PartValue → List (List PartValue) → List (List PartValue) → Type 0
-Pairs m k q d r row rows_p rows_u = (G : Poly (series_ring m)) → HasNoPowerAbove (k + q) G
-    → IsRowOf (k + q) r G (maps_modulo m row) → IsPrepared G k q d (rows_modulo m rows_p) (rows_modulo m rows_u)
+abbrev Pairs : (m : ℕ) (ws : List ℕ) (k q d r : ℕ) → List PartValue → List (List PartValue) → List (List PartValue) → Type 0
+Pairs m ws k q d r row rows_p rows_u = (G : Poly (series_ring m ws)) → HasNoPowerAbove (k + q) G
+    → IsRowOf (k + q) r G (maps_modulo m ws row) → IsPrepared G k q d (rows_modulo m ws rows_p) (rows_modulo m ws rows_u)
 
-pairs_moved : (m n k k' q q' d d' r : ℕ) (row : List PartValue) (rows_p rows_u : List (List PartValue)) → m ≡ n → k ≡ k'
-    → q ≡ q' → d ≡ d' → Pairs m k q d r row rows_p rows_u → Pairs n k' q' d' r row rows_p rows_u
-pairs_moved m n k k' q q' d d' r row rows_p rows_u e f g h pairs =
-    subst (λ x. Pairs n k' q' x r row rows_p rows_u) h (subst (λ x. Pairs n k' x d r row rows_p rows_u) g
-    (subst (λ x. Pairs n x q d r row rows_p rows_u) f (subst (λ x. Pairs x k q d r row rows_p rows_u) e pairs)))
+pairs_moved : (m n : ℕ) (ws xs : List ℕ) (k k' q q' d d' r : ℕ) (row : List PartValue) (rows_p rows_u : List (List PartValue)) → m ≡ n → ws ≡ xs → k ≡ k'
+    → q ≡ q' → d ≡ d' → Pairs m ws k q d r row rows_p rows_u → Pairs n xs k' q' d' r row rows_p rows_u
+pairs_moved m n ws xs k k' q q' d d' r row rows_p rows_u e e' f g h pairs =
+    subst (λ x. Pairs n xs k' q' x r row rows_p rows_u) h (subst (λ x. Pairs n xs k' x d r row rows_p rows_u) g
+    (subst (λ x. Pairs n xs x q d r row rows_p rows_u) f (subst (λ (p : ℕ × List ℕ). Pairs p.0 p.1 k q d r row rows_p rows_u) (λ i. (e i, e' i)) pairs)))
 
-abbrev NextPairs : (m k q d e r : ℕ) → List PartValue → (rows_p rows_u new_p new_u : List (List PartValue)) → Type 0
-NextPairs m k q d e r row rows_p rows_u new_p new_u = (G : Poly (series_ring m)) → HasNoPowerAbove (k + q) G
-    → IsRowOf (k + q) r G (maps_modulo m row) → IsPrepared G k q d (rows_modulo m rows_p) (rows_modulo m rows_u)
-    → IsPrepared G k q e (rows_modulo m new_p) (rows_modulo m new_u)
+abbrev NextPairs : (m : ℕ) (ws : List ℕ) (k q d e r : ℕ) → List PartValue → (rows_p rows_u new_p new_u : List (List PartValue)) → Type 0
+NextPairs m ws k q d e r row rows_p rows_u new_p new_u = (G : Poly (series_ring m ws)) → HasNoPowerAbove (k + q) G
+    → IsRowOf (k + q) r G (maps_modulo m ws row) → IsPrepared G k q d (rows_modulo m ws rows_p) (rows_modulo m ws rows_u)
+    → IsPrepared G k q e (rows_modulo m ws new_p) (rows_modulo m ws new_u)
 
-next_moved : (m n k k' q q' d d' e e' r r' : ℕ) (row : List PartValue) (rows_p rows_u new_p new_u : List (List PartValue))
-    → m ≡ n → k ≡ k' → q ≡ q' → d ≡ d' → e ≡ e' → r ≡ r' → NextPairs m k q d e r row rows_p rows_u new_p new_u
-    → NextPairs n k' q' d' e' r' row rows_p rows_u new_p new_u
-next_moved m n k k' q q' d d' e e' r r' row rows_p rows_u new_p new_u a b c' d1 e1 f pairs =
-    subst (λ x. NextPairs n k' q' d' e' x row rows_p rows_u new_p new_u) f
-    (subst (λ x. NextPairs n k' q' d' x r row rows_p rows_u new_p new_u) e1
-    (subst (λ x. NextPairs n k' q' x e r row rows_p rows_u new_p new_u) d1
-    (subst (λ x. NextPairs n k' x d e r row rows_p rows_u new_p new_u) c'
-    (subst (λ x. NextPairs n x q d e r row rows_p rows_u new_p new_u) b
-    (subst (λ x. NextPairs x k q d e r row rows_p rows_u new_p new_u) a pairs)))))
+next_moved : (m n : ℕ) (ws xs : List ℕ) (k k' q q' d d' e e' r r' : ℕ) (row : List PartValue) (rows_p rows_u new_p new_u : List (List PartValue))
+    → m ≡ n → ws ≡ xs → k ≡ k' → q ≡ q' → d ≡ d' → e ≡ e' → r ≡ r' → NextPairs m ws k q d e r row rows_p rows_u new_p new_u
+    → NextPairs n xs k' q' d' e' r' row rows_p rows_u new_p new_u
+next_moved m n ws xs k k' q q' d d' e e' r r' row rows_p rows_u new_p new_u a a' b c' d1 e1 f pairs =
+    subst (λ x. NextPairs n xs k' q' d' e' x row rows_p rows_u new_p new_u) f
+    (subst (λ x. NextPairs n xs k' q' d' x r row rows_p rows_u new_p new_u) e1
+    (subst (λ x. NextPairs n xs k' q' x e r row rows_p rows_u new_p new_u) d1
+    (subst (λ x. NextPairs n xs k' x d e r row rows_p rows_u new_p new_u) c'
+    (subst (λ x. NextPairs n xs x q d e r row rows_p rows_u new_p new_u) b
+    (subst (λ (p : ℕ × List ℕ). NextPairs p.0 p.1 k q d e r row rows_p rows_u new_p new_u) (λ i. (a i, a' i)) pairs)))))
 
 module _ (title : TitleValue) (ok : IsAccepted title.job) (lt : title.stage < length title.job.roots) (ring : Ring)
     (ring_is : IsRingOf ring title.job) where
@@ -107,6 +108,9 @@ module _ (title : TitleValue) (ok : IsAccepted title.job) (lt : title.stage < le
   abbrev m : ℕ
   m = title.job.modulus
 
+  abbrev ws : List ℕ
+  ws = title.job.weights
+
   -- a row of slices that is shifted
   shifted_slices : (b K r : ℕ) (f g : List (Poly (job_ring title.job)) → Poly (job_ring title.job))
       (row out : List PartValue) → AreSlices title.job K r f row → HasShift ring b row out
@@ -115,8 +119,8 @@ module _ (title : TitleValue) (ok : IsAccepted title.job) (lt : title.stage < le
       → AreSlices title.job K r g out
   shifted_slices b K r f g row out are shift powers same = record {
     parts = λ other also. parts_same ring other title.job K r out ring_is also row_of_parts;
-    slices = λ fs at. subst (λ p. IsRowOf K r p (maps_modulo m out)) (same fs at)
-        (shifted_row_of R b K r (f fs) (maps_modulo m row) (maps_modulo m out) (powers fs at) (are.slices fs at) row_here
+    slices = λ fs at. subst (λ p. IsRowOf K r p (maps_modulo m ws out)) (same fs at)
+        (shifted_row_of R b K r (f fs) (maps_modulo m ws row) (maps_modulo m ws out) (powers fs at) (are.slices fs at) row_here
         polynomial_here);
   }
     where
@@ -129,13 +133,17 @@ module _ (title : TitleValue) (ok : IsAccepted title.job) (lt : title.stage < le
       is : IsShiftedRow ring b K r row out
       is = (shift K r here).1
 
-      row_here : IsRow R K r (maps_modulo m out)
-      row_here = subst (λ n. IsRow (ring_of (series_ring n)) K r (maps_modulo n out)) ring_is.0 is.out_is
+      series_is : ◌≡◌ {A = ℕ × List ℕ} (modulus_of ring, eight_weights ring) (m, ws)
+      series_is = λ i. (ring_is.0 i, ring_is.2 i)
 
-      polynomial_here : polynomial_of_row R 0 (maps_modulo m out) ≡ shifted R b (polynomial_of_row R 0 (maps_modulo m row))
-      polynomial_here = subst (λ n. polynomial_of_row (ring_of (series_ring n)) 0 (maps_modulo n out)
-          ≡ shifted (ring_of (series_ring n)) b (polynomial_of_row (ring_of (series_ring n)) 0 (maps_modulo n row))) ring_is.0
-          is.polynomial
+      row_here : IsRow R K r (maps_modulo m ws out)
+      row_here = subst (λ (n : ℕ × List ℕ). IsRow (ring_of (series_ring n.0 n.1)) K r (maps_modulo n.0 n.1 out)) series_is
+          is.out_is
+
+      polynomial_here : polynomial_of_row R 0 (maps_modulo m ws out) ≡ shifted R b (polynomial_of_row R 0 (maps_modulo m ws row))
+      polynomial_here = subst (λ (n : ℕ × List ℕ). polynomial_of_row (ring_of (series_ring n.0 n.1)) 0 (maps_modulo n.0 n.1 out)
+          ≡ shifted (ring_of (series_ring n.0 n.1)) b (polynomial_of_row (ring_of (series_ring n.0 n.1)) 0
+          (maps_modulo n.0 n.1 row))) series_is is.polynomial
 
   powers_of_factor : (D : ℕ) (fs : List (Poly (job_ring title.job))) → IsFactors title.job D fs
       → HasNoPowerAbove k (shifted R c (factor_at title.job title.stage fs))
@@ -183,10 +191,10 @@ module _ (title : TitleValue) (ok : IsAccepted title.job) (lt : title.stage < le
   at_begin : (up : List PartValue) (prep : PrepValue) → Begins ring k up prep → prep.q ≡ q
       → AreSlices title.job (k + q) 0 (before title ok lt 0) up
       → (fs : List (Poly (job_ring title.job))) → IsFactors title.job 0 fs
-      → IsPrepared (before title ok lt 0 fs) k q 0 (rows_modulo m prep.rows_p) (rows_modulo m prep.rows_u)
+      → IsPrepared (before title ok lt 0 fs) k q 0 (rows_modulo m ws prep.rows_p) (rows_modulo m ws prep.rows_u)
   at_begin up prep begins q_is are fs is =
-      pairs_moved (modulus_of prep.ring) m prep.k k prep.q q (degrees_of prep - 1) 0 0 up prep.rows_p prep.rows_u
-      (ap modulus_of begins.ring_is ∙ ring_is.0) begins.k_is q_is (let n = begins.degrees in omega arith) begins.pair
+      pairs_moved (modulus_of prep.ring) m (eight_weights prep.ring) ws prep.k k prep.q q (degrees_of prep - 1) 0 0 up prep.rows_p prep.rows_u
+      (ap modulus_of begins.ring_is ∙ ring_is.0) (ap eight_weights begins.ring_is ∙ ring_is.2) begins.k_is q_is (let n = begins.degrees in omega arith) begins.pair
       (before title ok lt 0 fs) (facts title ok lt 0 fs is).can.no_power_above (are.slices fs is)
 
   -- what is prepared once it is begun
@@ -219,9 +227,9 @@ module _ (title : TitleValue) (ok : IsAccepted title.job) (lt : title.stage < le
   -- the rows so far, for the list at the next degree
   before_next : (D : ℕ) (old : PrepValue) → IsPreparationOf title ring old → degrees_of old ≡ suc D
       → (fs : List (Poly (job_ring title.job))) → IsFactors title.job (suc D) fs
-      → IsPrepared (before title ok lt (suc D) fs) k q D (rows_modulo m old.rows_p) (rows_modulo m old.rows_u)
+      → IsPrepared (before title ok lt (suc D) fs) k q D (rows_modulo m ws old.rows_p) (rows_modulo m ws old.rows_u)
   before_next D old so_far degrees fs is = prepared-same R (before title ok lt D (each_truncated D fs))
-      (before title ok lt (suc D) fs) k q D (rows_modulo m old.rows_p) (rows_modulo m old.rows_u) same
+      (before title ok lt (suc D) fs) k q D (rows_modulo m ws old.rows_p) (rows_modulo m ws old.rows_u) same
       (pair_at title ok lt D old.rows_p old.rows_u degrees (so_far.same ∙ degrees)
       (λ r low. so_far.rows r (omega arith)) (each_truncated D fs)
       (factors_truncated title.job D (suc D) (omega arith) fs is))
@@ -235,29 +243,16 @@ module _ (title : TitleValue) (ok : IsAccepted title.job) (lt : title.stage < le
   at_next : (D : ℕ) (old new : PrepValue) (up : List PartValue) → IsPreparationOf title ring old → degrees_of old ≡ suc D
       → (adds : Adds up old new) → AreSlices title.job (k + q) (suc D) (before title ok lt (suc D)) up
       → (fs : List (Poly (job_ring title.job))) → IsFactors title.job (suc D) fs
-      → IsPrepared (before title ok lt (suc D) fs) k q (suc D) (rows_modulo m (old.rows_p ++ adds.row_p ∷ []))
-      (rows_modulo m (old.rows_u ++ adds.row_u ∷ []))
+      → IsPrepared (before title ok lt (suc D) fs) k q (suc D) (rows_modulo m ws (old.rows_p ++ adds.row_p ∷ []))
+      (rows_modulo m ws (old.rows_u ++ adds.row_u ∷ []))
   at_next D old new up so_far degrees adds are fs is =
-      next_moved (modulus_of old.ring) m old.k k old.q q (degrees_of old - 1) D
+      next_moved (modulus_of old.ring) m (eight_weights old.ring) ws old.k k old.q q (degrees_of old - 1) D
       (length (old.rows_p ++ adds.row_p ∷ []) - 1) (suc D) (degrees_of old) (suc D) up old.rows_p old.rows_u
       (old.rows_p ++ adds.row_p ∷ []) (old.rows_u ++ adds.row_u ∷ [])
-      (ap modulus_of so_far.ring_is ∙ ring_is.0) so_far.k_is so_far.q_is (omega arith)
+      (ap modulus_of so_far.ring_is ∙ ring_is.0) (ap eight_weights so_far.ring_is ∙ ring_is.2) so_far.k_is so_far.q_is (omega arith)
       (omega (arith, length-append old.rows_p (adds.row_p ∷ []))) degrees adds.pair
       (before title ok lt (suc D) fs) (facts title ok lt (suc D) fs is).can.no_power_above (are.slices fs is)
       (before_next D old so_far degrees fs is)
-
-  -- rows of parts, and one more
-  rows_more : (K r : ℕ) (rows : List (List PartValue)) (row : List PartValue) → length rows ≡ r
-      → AreRowsOfParts ring K rows → IsRowOfParts ring K r row → AreRowsOfParts ring K (rows ++ row ∷ [])
-  rows_more K r rows row count are is i low = at (cases_lt i (length rows))
-    where
-      at : (i < length rows) ⊎ (length rows ≤ i) → IsRowOfParts ring K i (get_or (rows ++ row ∷ []) i [])
-      at (inl early) = subst (IsRowOfParts ring K i) (sym (get_or-append rows (row ∷ []) [] i early)) (are i early)
-      at (inr late) =
-          let last : length rows ≡ i = omega (arith, length-append rows (row ∷ [])) in
-          subst (λ n. IsRowOfParts ring K n (get_or (rows ++ row ∷ []) n [])) last
-          (subst (IsRowOfParts ring K (length rows)) (sym (get_or-append_seam rows row [] []))
-          (subst (λ n. IsRowOfParts ring K n row) (sym count) is))
 
   -- what is prepared once a degree is added
   pub further : (D : ℕ) (old new : PrepValue) (up : List PartValue) → IsPreparationOf title ring old
@@ -287,9 +282,9 @@ module _ (title : TitleValue) (ok : IsAccepted title.job) (lt : title.stage < le
       last : ArePrepared title (suc D) (get_or (old.rows_p ++ adds.row_p ∷ []) (suc D) [])
           (get_or (old.rows_u ++ adds.row_u ∷ []) (suc D) [])
       last = last_rows title ok lt (suc D) ring (old.rows_p ++ adds.row_p ∷ []) (old.rows_u ++ adds.row_u ∷ []) ring_is
-          (rows_more k (degrees_of old) old.rows_p adds.row_p refl old_p (row_here old.k k adds.row_p so_far.k_is adds.p_is))
-          (rows_more q (degrees_of old) old.rows_u adds.row_u so_far.same old_u
-          (row_here old.q q adds.row_u so_far.q_is adds.u_is))
+          (rows_more ring k old.rows_p adds.row_p old_p (row_here old.k k adds.row_p so_far.k_is adds.p_is))
+          (rows_more ring q old.rows_u adds.row_u old_u (subst (λ n. IsRowOfParts ring q n adds.row_u) (sym so_far.same)
+          (row_here old.q q adds.row_u so_far.q_is adds.u_is)))
           (omega (arith, length-append old.rows_p (adds.row_p ∷ [])))
           (let n = so_far.same in omega (arith, length-append old.rows_u (adds.row_u ∷ [])))
           (at_next D old new up so_far degrees adds are)

@@ -19,8 +19,8 @@ pub input_upstream : (job : JobData) (r : ℕ) (row : List PartValue) → IsAcce
     → IsUpstream job 0 r row
 input_upstream job r row ok is = record {
   parts = subst (λ K. AreJobParts job K r row) degree is.parts;
-  slices = λ fs factors. subst (λ K. IsRowOf K r (product_from r 0 fs) (maps_modulo job.modulus row)) degree
-      (subst (λ p. IsRowOf (formal_degree job.expr) r p (maps_modulo job.modulus row))
+  slices = λ fs factors. subst (λ K. IsRowOf K r (product_from r 0 fs) (maps_modulo job.modulus job.weights row)) degree
+      (subst (λ p. IsRowOf (formal_degree job.expr) r p (maps_modulo job.modulus job.weights row))
       (sym (product_is_value job r fs factors)) (is.slices factors.value factors.is_value));
 }
   where

@@ -1,6 +1,8 @@
 -- What contracts see of stages, from one call to the next.
 --     StageState      the title and the ring, the capacity, the items and the name of the row, and the
 --         preparation once it is begun
+--     state_by capacity name items splitter row      the state of a stage with this splitter and this row,
+--         whose capacity, name and items the three functions tell
 --     prepared_of s      how many degrees are prepared
 --     KeepsStage old new      title, ring, capacity and name stay, the items begin with the old ones, and no
 --         fewer degrees are prepared
@@ -10,7 +12,7 @@ use Rattle.parts.specs.declared.rings.Ring.{Ring}
 use Rattle.prepare.specs.PrepValue.{PrepValue}
 use Rattle.stages.specs.Titles.{TitleValue}
 use Rattle.stages.specs.Items.{StageItemValue}
-use Rattle.stages.specs.Splitters.{prepared_in}
+use Rattle.stages.specs.Splitters.{SplitterValue, prepared_in}
 
 pub record StageState : Type 0 where
   pub title : TitleValue
@@ -19,6 +21,16 @@ pub record StageState : Type 0 where
   pub name : List ℕ
   pub items : List StageItemValue
   pub preparation : Option PrepValue
+
+abbrev pub state_by : {R : Type 0} → (R → ℕ) → (R → List ℕ) → (R → List StageItemValue) → SplitterValue → R → StageState
+state_by capacity name items splitter row = record {
+  title = splitter.title;
+  ring = splitter.ring;
+  capacity = capacity row;
+  name = name row;
+  items = items row;
+  preparation = splitter.preparation;
+}
 
 abbrev pub prepared_of : StageState → ℕ
 prepared_of s = prepared_in s.preparation

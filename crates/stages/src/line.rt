@@ -1,6 +1,6 @@
 //! The stages of a job, in their order.
 ghost use Rattle.std.specs.Prelude.{◌≡◌, ℕ, ◌+◌, ◌<◌, ◌≤◌, ◌^◌, [], length, map, sum_by, IfOk, IfErr};
-ghost use Rattle.std.specs.Prelude.{OnOk, OnErr, IsOk, Some, None, IfSome, slice_get, ◌↔◌, List};
+ghost use Rattle.std.specs.Prelude.{OnOk, OnErr, IsOk, Some, None, IfSome, slice_get, ◌↔◌, List, take};
 ghost use Rattle.std.specs.Arc.{arc_value};
 ghost use Rattle.ps_model.specs.declared.job.JobData.{JobData};
 ghost use Rattle.ps_model.specs.AcceptedJob.{IsAccepted};
@@ -91,8 +91,8 @@ impl<R: RowOut<StageItem>> Line<R> {
     /// Raises the line to a degree: each row has its items up to there then, if it had not.
     ///
     /// On a refusal each row begins with what it was, and a later call goes on from there. Where all
-    /// is there already nothing changes and no memory is taken. No row gets longer than the one
-    /// before it.
+    /// is there already nothing changes, the source stays as it was, and no memory is taken. Where
+    /// no row was longer than the one before it, none is then.
     pub fn raise<I: RowSource>(
         &mut self,
         input: &mut I,
@@ -100,7 +100,8 @@ impl<R: RowOut<StageItem>> Line<R> {
         tally: &mut Tally,
     ) -> Result<(), OutOfMemory>
         requires room { HaveRoom to (⟦<Self as LineView>⟧.states self.old) }
-        requires permitted { IsPermitted (⟦<Self as LineView>⟧.job self.old).n to }
+        requires permitted { let job = ⟦<Self as LineView>⟧.job self.old in
+            IsPermitted (take job.n job.weights) to }
         requires source { I.job input.old ≡ ⟦<Self as LineView>⟧.job self.old }
         requires tally { tally.old ≤ 2 ^ 61 }
         ensures job { ⟦<Self as LineView>⟧.job self.new ≡ ⟦<Self as LineView>⟧.job self.old }
@@ -117,8 +118,8 @@ impl<R: RowOut<StageItem>> Line<R> {
             tally.new + sum_by prepared_of (states self.old)
             ≡ tally.old + sum_by prepared_of (states self.new) }
         ensures there { let states = ⟦<Self as LineView>⟧.states in
-            AllHave (to + 1) (states self.old) →
-            IsOk result × (states self.new ≡ states self.old) × (tally.new ≡ tally.old) }
+            AllHave (to + 1) (states self.old) → IsOk result
+            × (states self.new ≡ states self.old) × (input.new ≡ input.old) × (tally.new ≡ tally.old) }
     {
         for r in least_length(&self.stages)..to + 1 {
             raise_all(&mut self.stages, r, input, tally)?;

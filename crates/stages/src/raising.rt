@@ -1,5 +1,6 @@
 //! How the stages of a line are raised by one degree.
-ghost use Rattle.std.specs.Prelude.{◌≡◌, ◌+◌, ◌-◌, ◌<◌, ◌≤◌, ◌^◌, length, map, sum_by, OnOk, OnErr};
+ghost use Rattle.std.specs.Prelude.{◌≡◌, ◌+◌, ◌-◌, ◌<◌, ◌≤◌, ◌^◌, length, map, sum_by, take};
+ghost use Rattle.std.specs.Prelude.{OnOk, OnErr};
 ghost use Rattle.parts.specs.JobRows.{IsPermitted};
 ghost use Rattle.stages.specs.States.{prepared_of};
 ghost use Rattle.stages.specs.Lines.{OfStage, AreStagesOf, HaveRoom, AllHave, AreFalling, AllGrow};
@@ -37,7 +38,7 @@ pub(crate) fn raise_all<R: RowOut<StageItem>, I: RowSource>(
         AllHave r (map state stages.old) }
     requires room { let state = ⟦<Stage<R> as StageView>⟧.state in
         HaveRoom r (map state stages.old) }
-    requires permitted { IsPermitted (I.job input.old).n r }
+    requires permitted { IsPermitted (take (I.job input.old).n (I.job input.old).weights) r }
     requires tally { let state = ⟦<Stage<R> as StageView>⟧.state in
         tally.old ≤ 2 ^ 61 + sum_by prepared_of (map state stages.old) }
     ensures source { I.job input.new ≡ I.job input.old }
@@ -49,6 +50,8 @@ pub(crate) fn raise_all<R: RowOut<StageItem>, I: RowSource>(
         OnOk result (AllHave (r + 1) (map state stages.new)) }
     ensures err { let state = ⟦<Stage<R> as StageView>⟧.state in
         OnErr result (AllHave (r + 1) (map state stages.old) → ⊥) }
+    ensures there { let state = ⟦<Stage<R> as StageView>⟧.state in
+        AllHave (r + 1) (map state stages.old) → input.new ≡ input.old }
     ensures ticks { let state = ⟦<Stage<R> as StageView>⟧.state in
         tally.new + sum_by prepared_of (map state stages.old)
         ≡ tally.old + sum_by prepared_of (map state stages.new) }
@@ -78,7 +81,7 @@ fn raise_one<R: RowOut<StageItem>, I: RowSource>(
         0 < s → OfStage (map state stages.old) (s - 1) (λ x. r < length x.items) }
     requires room { let state = ⟦<Stage<R> as StageView>⟧.state in
         OfStage (map state stages.old) s (λ x. r < x.capacity) }
-    requires permitted { IsPermitted (I.job input.old).n r }
+    requires permitted { IsPermitted (take (I.job input.old).n (I.job input.old).weights) r }
     requires tally { tally.old < 2 ^ 62 }
     ensures source { I.job input.new ≡ I.job input.old }
     ensures grow { let state = ⟦<Stage<R> as StageView>⟧.state in

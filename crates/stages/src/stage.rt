@@ -10,7 +10,7 @@ ghost use Rattle.parts.specs.RowsOfParts.{parts_of};
 ghost use Rattle.stages.specs.Slices.{IsUpstream};
 ghost use Rattle.stages.specs.Items.{IsItem};
 ghost use Rattle.stages.specs.Splitters.{prepared_in, IsPreparationOf};
-ghost use Rattle.stages.specs.States.{StageState, prepared_of, KeepsStage, PutsOne};
+ghost use Rattle.stages.specs.States.{StageState, state_by, prepared_of, KeepsStage, PutsOne};
 
 use crate::item::StageItem;
 use crate::splitter::Splitter;
@@ -41,14 +41,7 @@ pub struct Stage<R: RowOut<StageItem>> {
 }
 
 impl<R: RowOut<StageItem>> StageView for Stage<R> {
-    ghost state = { λ s. record {
-      title = s.splitter.title;
-      ring = s.splitter.ring;
-      capacity = R.capacity s.row;
-      name = R.name s.row;
-      items = R.items s.row;
-      preparation = s.splitter.preparation;
-    } };
+    ghost state = { λ s. state_by R.capacity R.name R.items s.splitter s.row };
 }
 
 impl<R: RowOut<StageItem>> Stage<R> {

@@ -77,14 +77,13 @@ impl Binomials {
     }
 }
 
-/// The row of Pascal's triangle below a row.
+/// The row of Pascal's triangle below a row: C(j + 1, i) = C(j, i - 1) + C(j, i), and 1 at both ends.
 fn next_row(alloc: Global, modulus: Modulus, row: &[u64]) -> Result<Vec<u64>, OutOfMemory>
     requires some { 0 < length row.now }
     requires row { IsBinomialRow (number_of modulus) (length row.now - 1) row.now }
     ensures { IfOk result (λ next.
         IsBinomialRow (number_of modulus) (length row.now) next.items) }
 {
-    // C(j + 1, i) = C(j, i - 1) + C(j, i)
     let mut next = vec![in alloc; 1; 1]?;
     for i in 1..row.len() {
         next.push(modulus.add(row[i - 1], row[i]))?;

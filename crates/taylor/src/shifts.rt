@@ -10,7 +10,8 @@ use ps_model::OutOfMemory;
 use std::alloc::Global;
 use std::sync::Arc;
 
-/// The row of the polynomial with Y + c in place of Y.
+/// The row of the polynomial with Y + c in place of Y:
+/// shifted[i] = sum over j >= i of C(j, i) * c^(j - i) * row[j].
 ///
 /// `row[j]` belongs to Y^j; all are of one degree, and so is the answer, of the same length. A row
 /// of n parts takes n (n + 1) / 2 multiples of parts; where c is 0 its parts are shared.
@@ -42,7 +43,7 @@ pub fn shift(
     Ok(shifted)
 }
 
-/// The part of Y^i in a shifted row.
+/// The part of Y^i in a shifted row: sum over j >= i of C(j, i) * c^(j - i) * row[j].
 fn shifted_part(
     alloc: Global,
     ring: Ring,
@@ -58,11 +59,11 @@ fn shifted_part(
     requires parts { AreRowParts ring (parts_of row.now) }
     ensures { IfOk result (IsPartOfShift ring c (parts_of row.now) i) }
 {
-    // the sum over j from i on of C(j, i) * c^(j - i) * row[j]
     let modulus = ring.modulus();
     let mut sum = Accumulator::new(alloc, ring, row[i].degree());
     let mut power = 1;
     for j in i..row.len() {
+        // power is c^(j - i)
         let factor = modulus.mul(table.number(j, i), power);
         sum.add_scaled(&row[j], factor)?;
         power = modulus.mul(power, c);

@@ -1,4 +1,4 @@
-//! Values by hand, and each call that takes memory once on its happy path.
+//! Values by hand, each call once on its happy path, and what no clause says of sharing.
 ghost use Rattle.std.specs.Prelude.{◌≡◌, ◌-◌, ◌<◌, ◌≤◌, length, IfOk};
 ghost use Rattle.residue.specs.Residues.{number_of};
 ghost use Rattle.parts.specs.RowsOfParts.{parts_of, IsRowOfParts};
@@ -44,6 +44,30 @@ fn a_square_is_shifted(rt: HostRuntime) -> Result<(), Fail> {
             assert_eq!(rt; terms.len(), 1);
             assert_eq!(rt; terms[0].coefficient, c);
         }
+    }
+    for part in &shifted {
+        assert_eq!(rt; Arc::strong_count(part), 2, "a part that isn't shared");
+    }
+    Ok(())
+}
+
+// Y^32 with Y + 1 in place of Y, by the row 32 of Pascal's triangle
+#[test]
+fn the_greatest_power_is_shifted(rt: HostRuntime) -> Result<(), Fail> {
+    let alloc = rt.alloc();
+    let ring = Ring::new(Modulus::new(9223372036854775783)?, 1);
+    let table = Binomials::new(alloc, ring.modulus(), 32)?;
+    let mut numbers = [0; 33];
+    numbers[32] = 1;
+    let row = constants(alloc, ring, &numbers)?;
+    let shifted = shift(alloc, ring, &table, 1, &row)?;
+    assert_eq!(rt; shifted.len(), 33);
+    for (i, binomial) in [(0, 1), (1, 32), (2, 496), (16, 601080390), (32, 1)] {
+        assert_eq!(rt; table.number(32, i), binomial);
+        assert!(rt; i < shifted.len());
+        let terms = shifted[i].terms();
+        assert_eq!(rt; terms.len(), 1);
+        assert_eq!(rt; terms[0].coefficient, binomial);
     }
     Ok(())
 }

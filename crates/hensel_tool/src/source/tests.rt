@@ -1,5 +1,5 @@
 //! Rows of small polynomials by hand.
-ghost use Rattle.std.specs.Prelude.{◌≡◌, ◌≢◌, [], IfOk};
+ghost use Rattle.std.specs.Prelude.{◌≡◌, ◌≢◌, [], ◌∷◌, take, IfOk};
 ghost use Rattle.std.specs.List.{All};
 ghost use Rattle.hensel_tool.specs.Plain.{factor_tree as factor_tree_of};
 ghost use Rattle.hensel_tool.specs.Plain.{term_tree as term_tree_of, plain_tree as plain_tree_of};
@@ -95,7 +95,7 @@ fn rows_of(
     m: u64,
     terms: &[(bool, &[PlainFactor])],
 ) -> Result<PlainRows, Fail>
-    ensures { IfOk result (λ rows. rows.n ≡ 1) }
+    ensures { IfOk result (λ rows. take rows.n rows.weights ≡ 1 ∷ []) }
 {
     let ring = Ring::new(Modulus::new(m)?, 1);
     let sum = sum_of(rt, alloc, terms)?;
@@ -105,6 +105,7 @@ fn rows_of(
     let job = JobData {
         modulus: m,
         n: 1,
+        weights: [1; 8],
         expr,
         roots: Items::new(alloc),
     };
@@ -118,10 +119,11 @@ fn assert_row<S: RowSource>(
     r: u32,
     numbers: &[u64],
 ) -> Result<(), Fail>
-    requires { (S.job rows.old).n ≡ 1 }
-    ensures { (S.job rows.new).n ≡ 1 }
+    requires { take (S.job rows.old).n (S.job rows.old).weights ≡ 1 ∷ [] }
+    ensures { take (S.job rows.new).n (S.job rows.new).weights ≡ 1 ∷ [] }
 {
-    assert!(rt; permitted(1, r));
+    let ring = Ring::new(Modulus::new(2)?, 1);
+    assert!(rt; permitted(ring, r));
     let row = rows.row(r)?;
     assert_eq!(rt; row.len(), numbers.len());
     for (part, number) in row.iter().zip(numbers) {

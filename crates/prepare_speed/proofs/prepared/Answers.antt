@@ -21,7 +21,7 @@ loop-r-init c =
     let is = row_read_is c.args.ring c.args.ring 8 8 c.args.rows.now 0 c.index-rows-0.result c.deref.result.now
     c.requires.some c.index-rows-0.is c.deref.ensures.value c.requires.rows refl refl in
     record {
-      tally = c.in_ok-prep.ensures.ticks ∙ ap (λ n. n + 1) c.requires.tally;
+      tally = c.in_ok-prep.ensures.ticks;
       prep = begun c.args.ring (parts_in c.args.rows.now) c.in_ok-prep.prep (parts_of c.deref.result.now)
           (row_read c.args.rows.now 0 c.index-rows-0.result c.deref.result.now c.requires.some c.index-rows-0.is
           c.deref.ensures.value) is.places c.in_ok-prep.ensures.ok;
@@ -36,13 +36,13 @@ step-requires-clause-row c = fits c.args.ring (parts_in c.args.rows.now) c.loop-
 
 pub loop-r-preserved : goal.loop-r-preserved
 loop-r-preserved c = record {
-  tally = c.in_ok-step.ensures.ticks ∙ ap (λ n. n + 1) c.loop-r.invariant.tally;
+  tally = omega (arith, c.in_ok-step.ensures.ticks, c.loop-r.invariant.tally);
   prep = more c.args.ring (parts_in c.args.rows.now) c.loop-r.r c.loop-r.prep c.step.new.self
       (parts_of c.deref-in-loop-r.result.now)
       (row_read c.args.rows.now c.loop-r.r c.index-rows-r.result c.deref-in-loop-r.result.now c.loop-r-test.true
       c.index-rows-r.is c.deref-in-loop-r.ensures.value) c.in_ok-step.ensures.ok c.loop-r.invariant.prep;
 }
 
-pub returns : goal.returns
-returns c = subst (λ n. IsPreparationOf c.args.ring (parts_in c.args.rows.now) n c.loop-r.prep)
+pub returns-clause-prepared : goal.returns-clause-prepared
+returns-clause-prepared c = subst (λ n. IsPreparationOf c.args.ring (parts_in c.args.rows.now) n c.loop-r.prep)
     (omega arith) c.loop-r.invariant.prep

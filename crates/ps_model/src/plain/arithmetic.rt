@@ -5,8 +5,7 @@ ghost use Rattle.ps_model.specs.Keys.{key_compare, add_keys};
 ghost use Rattle.ps_model.specs.FiniteMaps.{sum_maps, product_maps};
 ghost use Rattle.ps_model.specs.Plain.{entry_of, key_of};
 ghost use Rattle.ps_model.specs.PlainLists.{HasProductsInRange, IsInRange, added, multiplied};
-ghost use Rattle.ps_model.specs.PlainLists.{cut_map};
-ghost use Rattle.ps_model.specs.PlainLists.{total_degree};
+ghost use Rattle.ps_model.specs.PlainLists.{cut_map, plain_degree};
 
 use crate::OutOfMemory;
 use crate::plain::terms::product_key;
@@ -82,33 +81,43 @@ fn add_multiple(
     Ok(())
 }
 
-/// The sum of the powers of the variables.
-fn degree(term: &PlainTerm) -> u32
-    ensures { result ≡ total_degree (key_of term.now) }
+/// The sum of weight times power over the variables; a weight 0 counts as 1.
+fn degree(weights: &[u16; 8], term: &PlainTerm) -> u64
+    ensures { result ≡ plain_degree weights.now (key_of term.now) }
 {
     let mut degree = 0;
-    for x in &term.powers {
-        degree += u32::from(*x);
+    for i in 0..8 {
+        degree += u64::from(weights[i].max(1)) * u64::from(term.powers[i]);
     }
     degree
 }
 
 /// The terms of degree at most d.
-fn low_terms(alloc: Global, terms: &[PlainTerm], d: u32) -> Result<Vec<PlainTerm>, AllocError>
+fn low_terms(
+    alloc: Global,
+    weights: &[u16; 8],
+    terms: &[PlainTerm],
+    d: u32,
+) -> Result<Vec<PlainTerm>, AllocError>
     ensures { IfOk result
-        (λ v. v.items ≡ filter (λ t. nat_le (total_degree (key_of t)) d) terms.now) }
+        (λ v. v.items ≡ filter (λ t. nat_le (plain_degree weights.now (key_of t)) d) terms.now) }
 {
     terms
         .iter()
-        .filter(|t| degree(t) <= d)
+        .filter(|t| degree(weights, t) <= u64::from(d))
         .copied()
         .collect(alloc)
 }
 
-/// The entries of degree at most d.
-pub fn plain_cut(alloc: Global, a: &PlainPoly, d: u32) -> Result<PlainPoly, OutOfMemory>
-    ensures { IfOk result (λ p. p ≡ cut_map d a.now) }
+/// The entries of degree at most d by these weights; a weight 0 counts as 1.
+pub fn plain_cut(
+    alloc: Global,
+    weights: &[u16; 8],
+    a: &PlainPoly,
+    d: u32,
+) -> Result<PlainPoly, OutOfMemory>
+    ensures { IfOk result (λ p. p ≡ cut_map weights.now d a.now) }
 {
-    let terms = low_terms(alloc, a.terms(), d)?;
+    let terms = low_terms(alloc, weights, a.terms(), d)?;
     Ok(PlainPoly { terms })
 }

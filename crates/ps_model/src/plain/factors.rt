@@ -1,5 +1,5 @@
 //! The definition of a list of factors, as a slow test.
-ghost use Rattle.std.specs.Prelude.{◌≡◌, ℕ, ◌-◌, ◌<◌, ◌≤◌, ◌↔◌, nat_le, filter, map, [], ◌∷◌};
+ghost use Rattle.std.specs.Prelude.{◌≡◌, ℕ, ◌-◌, ◌<◌, ◌≤◌, ◌↔◌, nat_le, filter, map, List, [], ◌∷◌};
 ghost use Rattle.std.specs.Prelude.{IsTrue, IfOk, All};
 ghost use Rattle.std.specs.FinMap.{FinMap};
 ghost use Rattle.ps_model.specs.Keys.{key_compare, add_keys, y_key};
@@ -45,8 +45,9 @@ fn same_terms(a: &[PlainTerm], b: &[PlainTerm]) -> bool
 /// Whether two polynomials are the same.
 fn same(a: &PlainPoly, b: &PlainPoly) -> bool
     ensures entries { IsTrue result ↔ (a.now ≡ b.now) }
-    ensures polynomials { (m : ℕ) → 2 ≤ m → HasValuesBelow m a.now → HasValuesBelow m b.now →
-        (IsTrue result ↔ (plain_polynomial m a.now ≡ plain_polynomial m b.now)) }
+    ensures polynomials { (m : ℕ) (ws : List ℕ) → 2 ≤ m →
+        HasValuesBelow m a.now → HasValuesBelow m b.now →
+        (IsTrue result ↔ (plain_polynomial m ws a.now ≡ plain_polynomial m ws b.now)) }
 {
     same_terms(a.terms(), b.terms())
 }
@@ -103,7 +104,8 @@ fn linear(alloc: Global, m: u64, value: u64) -> Result<PlainPoly, OutOfMemory>
 fn plain_root_power(alloc: Global, m: u64, root: &Root) -> Result<PlainPoly, OutOfMemory>
     requires modulus { 2 ≤ m }
     requires residue { root.now.value < m }
-    ensures power { IfOk result (λ p. plain_polynomial m p ≡ root_power root.now) }
+    ensures power { IfOk result
+        (λ p. (ws : List ℕ) → plain_polynomial m ws p ≡ root_power root.now) }
     ensures residues { IfOk result (λ p. HasValuesBelow m p) }
 {
     let linear = linear(alloc, m, root.value)?;
@@ -118,7 +120,8 @@ fn plain_root_power(alloc: Global, m: u64, root: &Root) -> Result<PlainPoly, Out
 fn is_monic(alloc: Global, m: u64, f: &PlainPoly, k: u32) -> Result<bool, OutOfMemory>
     requires modulus { 2 ≤ m }
     requires residues { HasValuesBelow m f.now }
-    ensures { IfOk result (λ b. IsTrue b ↔ IsMonic k (plain_polynomial m f.now)) }
+    ensures { IfOk result
+        (λ b. (ws : List ℕ) → (IsTrue b ↔ IsMonic k (plain_polynomial m ws f.now))) }
 {
     let high = powers_from(alloc, f, k)?;
     let lead = y_power(alloc, m, k)?;
@@ -126,47 +129,63 @@ fn is_monic(alloc: Global, m: u64, f: &PlainPoly, k: u32) -> Result<bool, OutOfM
 }
 
 /// Whether the entries without variables are the root's power.
-fn is_at_origin(alloc: Global, m: u64, f: &PlainPoly, root: &Root) -> Result<bool, OutOfMemory>
+fn is_at_origin(
+    alloc: Global,
+    m: u64,
+    weights: &[u16; 8],
+    f: &PlainPoly,
+    root: &Root,
+) -> Result<bool, OutOfMemory>
     requires modulus { 2 ≤ m }
     requires residue { root.now.value < m }
     requires residues { HasValuesBelow m f.now }
     ensures { IfOk result
-        (λ b. IsTrue b ↔ (truncated 0 (plain_polynomial m f.now) ≡ root_power root.now)) }
+        (λ b. IsTrue b
+        ↔ (truncated 0 (plain_polynomial m weights.now f.now) ≡ root_power root.now)) }
 {
-    let low = plain_cut(alloc, f, 0)?;
+    let low = plain_cut(alloc, weights, f, 0)?;
     let expected = plain_root_power(alloc, m, root)?;
     Ok(same(&low, &expected))
 }
 
 /// Whether no entry has a degree above d.
-fn is_within(alloc: Global, f: &PlainPoly, d: u32) -> Result<bool, OutOfMemory>
+fn is_within(alloc: Global, weights: &[u16; 8], f: &PlainPoly, d: u32) -> Result<bool, OutOfMemory>
     ensures { IfOk result (λ b. (m : ℕ) → 2 ≤ m → HasValuesBelow m f.now →
-        (IsTrue b ↔ HasNoDegreeAbove d (plain_polynomial m f.now))) }
+        (IsTrue b ↔ HasNoDegreeAbove d (plain_polynomial m weights.now f.now))) }
 {
-    let low = plain_cut(alloc, f, d)?;
+    let low = plain_cut(alloc, weights, f, d)?;
     Ok(same(&low, f))
 }
 
 /// Whether f is a root's factor up to degree d.
-fn is_factor(alloc: Global, m: u64, root: &Root, f: &PlainPoly, d: u32) -> Result<bool, OutOfMemory>
+fn is_factor(
+    alloc: Global,
+    m: u64,
+    weights: &[u16; 8],
+    root: &Root,
+    f: &PlainPoly,
+    d: u32,
+) -> Result<bool, OutOfMemory>
     requires modulus { 2 ≤ m }
     requires residue { root.now.value < m }
     requires residues { HasResiduesBelow m f.now }
-    ensures { IfOk result (λ b. IsTrue b ↔ IsFactor d root.now (plain_polynomial m f.now)) }
+    ensures { IfOk result
+        (λ b. IsTrue b ↔ IsFactor d root.now (plain_polynomial m weights.now f.now)) }
 {
     if !is_monic(alloc, m, f, root.times)? {
         return Ok(false);
     }
-    if !is_at_origin(alloc, m, f, root)? {
+    if !is_at_origin(alloc, m, weights, f, root)? {
         return Ok(false);
     }
-    is_within(alloc, f, d)
+    is_within(alloc, weights, f, d)
 }
 
 /// Whether each of fs is the factor of the root at its place, and each root has one.
 fn are_factors(
     alloc: Global,
     m: u64,
+    weights: &[u16; 8],
     roots: &[Root],
     fs: &[PlainPoly],
     d: u32,
@@ -175,13 +194,13 @@ fn are_factors(
     requires roots { All (λ r. r.value < m) roots.now }
     requires residues { All (HasResiduesBelow m) fs.now }
     ensures { IfOk result
-        (λ b. IsTrue b ↔ EachIsFactor d roots.now (map (plain_polynomial m) fs.now)) }
+        (λ b. IsTrue b ↔ EachIsFactor d roots.now (map (plain_polynomial m weights.now) fs.now)) }
 {
     if roots.len() != fs.len() {
         return Ok(false);
     }
     for (i, root) in roots.iter().enumerate() {
-        if !is_factor(alloc, m, root, &fs[i], d)? {
+        if !is_factor(alloc, m, weights, root, &fs[i], d)? {
             return Ok(false);
         }
     }
@@ -189,26 +208,32 @@ fn are_factors(
 }
 
 /// The product of all of fs, cut at d after each factor.
-fn product_up_to(alloc: Global, m: u64, fs: &[PlainPoly], d: u32) -> Result<PlainPoly, OutOfMemory>
+fn product_up_to(
+    alloc: Global,
+    m: u64,
+    weights: &[u16; 8],
+    fs: &[PlainPoly],
+    d: u32,
+) -> Result<PlainPoly, OutOfMemory>
     requires modulus { 2 ≤ m }
     requires in_range { IsInRange (total_powers fs.now) }
-    ensures product { IfOk result (λ p. plain_polynomial m p
-        ≡ truncated d (product_of (map (plain_polynomial m) fs.now))) }
+    ensures product { IfOk result (λ p. plain_polynomial m weights.now p
+        ≡ truncated d (product_of (map (plain_polynomial m weights.now) fs.now))) }
     ensures residues { IfOk result (λ p. HasValuesBelow m p) }
 {
     let one = y_power(alloc, m, 0)?;
-    let mut product = plain_cut(alloc, &one, d)?;
+    let mut product = plain_cut(alloc, weights, &one, d)?;
     for i in (0..fs.len()).rev() {
         let next = plain_product(alloc, m, &fs[i], &product)?;
-        product = plain_cut(alloc, &next, d)?;
+        product = plain_cut(alloc, weights, &next, d)?;
     }
     Ok(product)
 }
 
 /// Whether fs is the list of factors up to degree d of the input cut at d, by the definition: one
 /// monic factor for each of the job's roots, in their order, at the origin the root's power, with
-/// no entry of degree above d, and their product up to d is the cut input. It is slow: it
-/// multiplies everything out term by term.
+/// no entry of degree above d, and their product up to d is the cut input. Degrees are by the job's
+/// weights, of which a 0 counts as 1. It is slow: it multiplies everything out term by term.
 pub fn plain_is_factors(
     alloc: Global,
     job: &JobData,
@@ -222,26 +247,28 @@ pub fn plain_is_factors(
     requires residues { All (HasResiduesBelow job.now.modulus) fs.now }
     requires in_range { IsInRange (total_powers fs.now) }
     ensures { IfOk result (λ b. IsTrue b ↔ AreFactorsOf job.now d
-        (truncated d (plain_polynomial job.now.modulus input.now))
-        (map (plain_polynomial job.now.modulus) fs.now)) }
+        (truncated d (plain_polynomial job.now.modulus job.now.weights input.now))
+        (map (plain_polynomial job.now.modulus job.now.weights) fs.now)) }
 {
     let m = job.modulus;
-    if !are_factors(alloc, m, job.roots.as_slice(), fs, d)? {
+    let weights = &job.weights;
+    if !are_factors(alloc, m, weights, job.roots.as_slice(), fs, d)? {
         return Ok(false);
     }
-    let product = product_up_to(alloc, m, fs, d)?;
-    let cut = plain_cut(alloc, input, d)?;
+    let product = product_up_to(alloc, m, weights, fs, d)?;
+    let cut = plain_cut(alloc, weights, input, d)?;
     Ok(same(&product, &cut))
 }
 
-/// The plain functions' answers as polynomials modulo m: the sum, the product and the truncation.
+/// The plain functions' answers as polynomials modulo m, for all weights: the sum, the product and
+/// the truncation.
 pub fn plain_laws()
-    ensures sum { (m : ℕ) → 2 ≤ m → (a b : FinMap (key_compare 8) ℕ) →
-        plain_polynomial m (sum_maps (key_compare 8) m a b)
-        ≡ sum (plain_polynomial m a) (plain_polynomial m b) }
-    ensures product { (m : ℕ) → 2 ≤ m → (a b : FinMap (key_compare 8) ℕ) →
-        plain_polynomial m (product_maps (key_compare 8) (add_keys 8) m a b)
-        ≡ product (plain_polynomial m a) (plain_polynomial m b) }
-    ensures cut { (m d : ℕ) (a : FinMap (key_compare 8) ℕ) →
-        plain_polynomial m (cut_map d a) ≡ truncated d (plain_polynomial m a) }
+    ensures sum { (m : ℕ) (ws : List ℕ) → 2 ≤ m → (a b : FinMap (key_compare 8) ℕ) →
+        plain_polynomial m ws (sum_maps (key_compare 8) m a b)
+        ≡ sum (plain_polynomial m ws a) (plain_polynomial m ws b) }
+    ensures product { (m : ℕ) (ws : List ℕ) → 2 ≤ m → (a b : FinMap (key_compare 8) ℕ) →
+        plain_polynomial m ws (product_maps (key_compare 8) (add_keys 8) m a b)
+        ≡ product (plain_polynomial m ws a) (plain_polynomial m ws b) }
+    ensures cut { (m : ℕ) (ws : List ℕ) (d : ℕ) (a : FinMap (key_compare 8) ℕ) →
+        plain_polynomial m ws (cut_map ws d a) ≡ truncated d (plain_polynomial m ws a) }
 {}

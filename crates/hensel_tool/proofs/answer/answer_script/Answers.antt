@@ -6,7 +6,8 @@ use Rattle.hensel_tool.specs.Plain.{plain_job}
 use Rattle.hensel_tool.specs.PlainFaultView.{fault_of}
 use Rattle.hensel_tool.specs.PlainView.{plain_view}
 use Rattle.hensel_tool.proofs.Outputs.{fault_output}
-use Rattle.hensel_tool.proofs.Replies.{refused_reply, stops_at_once, stops_within, on_err}
+use Rattle.hensel_tool.proofs.Replies.{refused_reply, stops_at_once, stops_within}
+use Rattle.stages.proofs.Rounds.{on_err}
 use Rattle.hensel_tool.proofs.answer.answer_script.Goals as goal
 
 pub returns-in_err-fault-clause-stops : goal.returns-in_err-fault-clause-stops

@@ -2,7 +2,8 @@ use Rattle.std.proofs.Common.{subst}
 use Rattle.std.specs.Prelude.{IfSome, IfNone}
 use Rattle.hensel_tool.specs.Plain.{Plain, IsWritten}
 use Rattle.hensel_tool.specs.PlainView.{plain_view}
-use Rattle.hensel_tool.proofs.Replies.{not_built_output, not_small, refused_reply, stops_at_once, on_err}
+use Rattle.hensel_tool.proofs.Replies.{not_built_output, not_small, refused_reply, stops_at_once}
+use Rattle.stages.proofs.Rounds.{on_err}
 use Rattle.hensel_tool.proofs.answer.answer_to.Goals as goal
 
 pub returns-then-not-is_small-clause-output : goal.returns-then-not-is_small-clause-output

@@ -2,7 +2,7 @@ use Rattle.std.proofs.Common.{◌≤◌, ℕ, List, ◌++◌, ◌∙◌, length,
 use Rattle.std.specs.Prelude.{codes, decimal}
 use Rattle.ps_model.specs.BlockText.{newline, factor_texts}
 use Rattle.ps_model.specs.Job.{job_ring}
-use Rattle.hensel_tool.proofs.Accepted.{few_roots}
+use Rattle.stages.proofs.LineTitles.{few_roots}
 use Rattle.hensel_tool.proofs.FactorsWritten.{factors_step, factors_all}
 use Rattle.hensel_tool.proofs.block.block.Goals as goal
 

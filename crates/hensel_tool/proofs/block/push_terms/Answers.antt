@@ -35,4 +35,6 @@ loop-term-preserved c =
     c.loop-term.text.items c.if-behind.text.items c.push_term.new.text.items _
     (within names c.args.terms.now c.loop-term.term-index c.loop-term-test.true) mark
     (c.in_ok-push_term.ensures ∙ ap (λ (l : List ℕ). c.if-behind.text.items ++ l)
-    (sym (at names c.args.terms.now c.loop-term.term-index _ c.loop-term-test.true))) c.loop-term.invariant
+    (ap (λ (t : Term). term_text names (entry_of t)) c.term-item.is
+    ∙ sym (at names c.args.terms.now c.loop-term.term-index c.term-item.result c.loop-term-test.true)))
+    c.loop-term.invariant

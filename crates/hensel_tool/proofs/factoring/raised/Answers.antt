@@ -1,8 +1,8 @@
 use Rattle.std.proofs.Common.{◌+◌, ◌*◌, ◌≤◌, length, ◌∙◌, ap, subst}
 use Rattle.std.specs.Arc.{arc_value}
 use Rattle.hensel_tool.proofs.LineGrowth.{permitted_one, steps_done, steps_within}
-use Rattle.hensel_tool.proofs.Accepted.{few_roots}
-use Rattle.hensel_tool.proofs.Replies.{on_err}
+use Rattle.stages.proofs.LineTitles.{few_roots}
+use Rattle.stages.proofs.Rounds.{on_err}
 use Rattle.hensel_tool.proofs.factoring.raised.Goals as goal
 
 pub empty_rows-requires-clause-few : goal.empty_rows-requires-clause-few
@@ -11,7 +11,8 @@ empty_rows-requires-clause-few g c = few_roots (arc_value c.args.job.now) c.requ
 pub raise-requires-clause-permitted : goal.raise-requires-clause-permitted
 raise-requires-clause-permitted g c κs within =
     let same = c.in-Ok.ensures.job ∙ c.in_ok-try_clone.ensures in
-    permitted_one (arc_value c.in-Ok.line.job).n c.args.to (ap (λ j. j.n) same ∙ c.requires.variable) c.requires.low
+    permitted_one (arc_value c.in-Ok.line.job) c.args.to (ap (λ j. j.n) same ∙ c.requires.variable)
+    (ap (λ j. j.weights) same ∙ c.requires.weights) c.requires.low
 
 pub returns-in_err-raise-clause-more : goal.returns-in_err-raise-clause-more
 returns-in_err-raise-clause-more g c = let e = c.in_err-raise.ensures in on_err c.from_residual-in_err-raise.result (c.args.tally.now ≤ c.raise.new.tally)

@@ -1,10 +1,10 @@
 -- The row itself, that of one factor more, and that of the root's power.
 use Rattle.std.proofs.Common.{◌≡◌, ◌-◌, ◌%◌, ◌<◌, sym, ◌∙◌, ap, subst, get_or, arith}
 use Rattle.std.proofs.Math.Nat.{mod-lt}
-use Rattle.ps_model.specs.Job.{series_ring}
 use Rattle.hensel_tool.proofs.OriginRing.{y_coefficient}
 use Rattle.hensel_tool.proofs.OriginRows.{next_number}
 use Rattle.hensel_tool.proofs.OriginValues.{times_power, times_none, times_more}
+use Rattle.hensel_tool.specs.Plain.{plain_ring}
 use Rattle.hensel_tool.proofs.origin.times_root.Goals as goal
 
 pub loop-init : goal.loop-init
@@ -34,7 +34,7 @@ loop-preserved c =
 
 pub returns-clause-numbers : goal.returns-clause-numbers
 returns-clause-numbers c = λ f are p. c.loop.invariant.numbers f are p
-    ∙ ap (λ n. y_coefficient (series_ring c.args.modulus.value)
+    ∙ ap (λ n. y_coefficient (plain_ring c.args.modulus.value)
     (times_power c.args.modulus.value c.args.root.value n f) p) all
   where
     all : c.loop.counter ≡ c.args.root.times

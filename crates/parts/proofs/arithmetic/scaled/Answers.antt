@@ -3,7 +3,7 @@ use Rattle.ps_model.specs.Keys.{key_compare}
 use Rattle.ps_model.specs.FiniteMaps.{collected}
 use Rattle.ps_model.specs.Sums.{multiples}
 use Rattle.parts.specs.Rings.{modulus_of}
-use Rattle.parts.proofs.Built.{part_terms, total_is, terms_of_ring}
+use Rattle.parts.proofs.Built.{part_terms, total_is}
 use Rattle.parts.proofs.arithmetic.scaled.Goals as goal
 
 pub scaled_terms-requires : goal.scaled_terms-requires
@@ -14,13 +14,9 @@ scaled_terms-requires c =
     }
 
 pub of_terms-requires : goal.of_terms-requires
-of_terms-requires c = c.in_ok-terms.ensures.terms.order
+of_terms-requires c = c.in_ok-terms.ensures.terms
 
 pub returns-clause-map : goal.returns-clause-map
 returns-clause-map c = c.of_terms.ensures.map ∙
     total_is c.args.ring c.degree-degree.result _ c.in_ok-terms.terms.items c.in_ok-terms.ensures
     ∙ ap (λ es. collected (key_compare 8) (modulus_of c.args.ring) (multiples c.args.c es)) c.terms.ensures.entries
-
-pub returns-clause-part : goal.returns-clause-part
-returns-clause-part c = terms_of_ring c.args.ring c.degree-degree.result c.in_ok-terms.terms.items
-    c.of_terms.result c.in_ok-terms.ensures.terms c.of_terms.ensures.degree c.of_terms.ensures.map

@@ -1,4 +1,4 @@
-use Rattle.std.proofs.Common.{◌≡◌, ℕ, ◌-◌, ◌+◌, ◌%◌, ◌∙◌, ap, sym, arith, length, drop, get_or, map, cond, is_ok, not}
+use Rattle.std.proofs.Common.{◌≡◌, ℕ, ◌-◌, ◌+◌, ◌%◌, ◌∙◌, ◌++◌, ◌∷◌, [], ap, sym, arith, length, drop, get_or, map, cond, is_ok, not}
 use Rattle.std.specs.Prelude.{Some, None}
 use Rattle.std.specs.Option.{option_map}
 use Rattle.parts.specs.Places.{powers_at}
@@ -15,7 +15,11 @@ loop-k-preserved c = elim c.if-coefficient-ne0.branch [
       kept_push c.args.modulus.value (key_at c.args.degree c.args.weights.now) c.args.cells.now at
       c.loop-k.terms.items w.push.new.self.items w.fill_powers.new.powers (length c.args.weights.now)
       (get_or c.args.cells.now (length c.args.cells.now - 1 - c.loop-k.k) 0 % c.from.result) (is_ok w.push.result)
-      (omega arith) (omega arith) w.push.ensures.items (w.is_err.ensures.negation ∙ ap not w.if-is_err.false)
+      (omega arith) (omega arith) (w.push.ensures.items ∙ ap (λ l. cond (is_ok w.push.result) (c.loop-k.terms.items ++
+      record {
+        monomial = record { powers = l };
+        coefficient = get_or c.args.cells.now (length c.args.cells.now - 1 - c.loop-k.k) 0 % c.from.result;
+      } ∷ []) c.loop-k.terms.items) w.of_powers.ensures) (w.is_err.ensures.negation ∙ ap not w.if-is_err.false)
       (ap (option_map key_from) (ap (powers_at c.args.degree c.args.weights.now c.args.degree) (sym here) ∙
       w.fill_powers.ensures ∙ ap (λ b. cond b (Some w.fill_powers.new.powers) None) w.if-fill_powers.true))
       (λ i. get_or c.args.cells.now (here i) 0 % same i) w.if-coefficient-ne0.true so_far

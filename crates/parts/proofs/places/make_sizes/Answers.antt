@@ -1,8 +1,9 @@
-use Rattle.std.proofs.Common.{◌≡◌, ◌+◌, ◌-◌, ◌*◌, ◌/◌, ◌∙◌, ap, sym, arith, length, drop, get_or}
+use Rattle.std.proofs.Common.{◌≡◌, ℕ, ◌+◌, ◌-◌, ◌*◌, ◌/◌, ◌∙◌, ap, sym, arith, length, drop, get_or}
 use Rattle.std.proofs.Math.ListN.{set}
 use Rattle.std.proofs.Math.Nat.{mul_comm}
 use Rattle.parts.specs.Places.{size, multipliers}
 use Rattle.parts.proofs.Filled.{size-first, size-more, multipliers-more}
+use Rattle.parts.proofs.Counts.{size-past}
 use Rattle.parts.proofs.places.make_sizes.Goals as goal
 use Rattle.parts.proofs.places.make_sizes.Goals.{then-k-eq0, else-k-eq0+else-count-gt-MOST_CELLS}
 
@@ -36,4 +37,20 @@ loop-k-preserved c = record {
     here = omega arith
 
     next : length c.args.weights.now - c.loop-k.k ≡ length c.args.weights.now - (c.loop-k.k + 1) + 1
+    next = omega arith
+
+pub returns-then-count-gt-MOST_CELLS-clause-many : goal.returns-then-count-gt-MOST_CELLS-clause-many
+returns-then-count-gt-MOST_CELLS-clause-many c _ =
+    size-past c.args.degree c.args.weights.now at c.loop-k.count _ (let h = c.if-k-eq0.false in omega arith)
+    (c.loop-k.invariant.count ∙ ap (λ j. size c.args.degree (drop j c.args.weights.now)) next)
+    (λ i. c.loop-k.count * (c.args.degree / (c.from.ensures ∙ ap (λ j. get_or c.args.weights.now j 0) here) i + 1))
+    c.if-count-gt-MOST_CELLS.true
+  where
+    at : ℕ
+    at = length c.args.weights.now - (c.loop-k.k + 1)
+
+    here : length c.args.weights.now - 1 - c.loop-k.k ≡ at
+    here = omega arith
+
+    next : length c.args.weights.now - c.loop-k.k ≡ at + 1
     next = omega arith

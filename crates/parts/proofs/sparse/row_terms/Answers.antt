@@ -1,4 +1,5 @@
-use Rattle.std.proofs.Common.{◌≡◌, ◌+◌, ◌*◌, ◌%◌, ◌∙◌, ◌++◌, sym, subst, arith, drop, get_or, []}
+use Rattle.std.proofs.Common.{◌≡◌, ◌+◌, ◌*◌, ◌%◌, ◌^◌, ◌<◌, ◌∙◌, ◌++◌, ap, sym, subst, arith, drop, get_or}
+use Rattle.ps_model.specs.Keys.{add_keys}
 use Rattle.ps_model.specs.Sums.{total}
 use Rattle.parts.specs.Rings.{modulus_of}
 use Rattle.parts.specs.Terms.{key_of}
@@ -8,13 +9,11 @@ use Rattle.parts.proofs.Built.{IsBuilt}
 use Rattle.parts.proofs.Rows.{IsBeforeRow, powers_fit, row_at}
 use Rattle.parts.proofs.sparse.row_terms.Goals as goal
 
-abbrev none : Term
-none = record { monomial = record { powers = [] }; coefficient = 0 }
-
-pub added_powers-requires : goal.added_powers-requires
-added_powers-requires c =
-    λ i lt. powers_fit c.args.ring c.args.left c.args.right c.args.terms.now c.args.x.now c.loop-t.t-index none
-    c.requires.x_terms c.loop-t.invariant.rest (omega arith) c.requires.low i lt
+pub times-requires : goal.times-requires
+times-requires c =
+    λ i lt. subst (λ (t : Term). get_or c.args.x.now.monomial.powers i 0 + get_or t.monomial.powers i 0 < 2 ^ 16)
+    (sym c.t-item.is) (powers_fit c.args.ring c.args.left c.args.right c.args.terms.now c.args.x.now c.loop-t.t-index c.t-item.result
+    c.requires.x_terms c.loop-t.invariant.rest (omega arith) c.requires.low i lt)
 
 pub loop-t-preserved : goal.loop-t-preserved
 loop-t-preserved c = record {
@@ -28,8 +27,8 @@ loop-t-preserved c = record {
 }
   where
     value : (c.from.result * c.from-in-loop-t.result) % c.from-m.result ≡
-        (c.args.c * (get_or c.args.terms.now c.loop-t.t-index none).coefficient) % modulus_of c.args.ring
-    value = λ i. (c.from.ensures i * c.from-in-loop-t.ensures i) % (c.from-m.ensures ∙ c.value.ensures.number ∙
+        (c.args.c * (get_or c.args.terms.now c.loop-t.t-index c.t-item.result).coefficient) % modulus_of c.args.ring
+    value = λ i. (c.from.ensures i * (c.from-in-loop-t.ensures ∙ ap (λ (t : Term). t.coefficient) c.t-item.is) i) % (c.from-m.ensures ∙ c.value.ensures.number ∙
         c.modulus.ensures) i
 
     next : AreTermsOf c.args.ring c.args.right (drop (c.loop-t.t-index + 1) c.args.terms.now) ×
@@ -40,16 +39,17 @@ loop-t-preserved c = record {
         (λ k. IsBeforeRow k (key_of c.args.x.now.monomial) (drop (c.loop-t.t-index + 1) c.args.terms.now))
         (c.loop-t.row.items ++ unless_zero
         (record {
-          monomial = record { powers = c.added_powers.result };
+          monomial = c.times.result;
           coefficient =
               (c.from.result * c.from-in-loop-t.result) % c.from-m.result;
         }))
-    next = row_at c.args.ring c.args.left c.args.right c.args.terms.now c.args.x.now c.loop-t.t-index none
+    next = row_at c.args.ring c.args.left c.args.right c.args.terms.now c.args.x.now c.loop-t.t-index c.t-item.result
         c.requires.x_terms c.loop-t.invariant.rest (omega arith)
         (λ f. total f (row_of (key_of c.args.x.now.monomial) c.args.c c.args.terms.now)) c.loop-t.row.items
         (record {
-          monomial = record { powers = c.added_powers.result };
+          monomial = c.times.result;
           coefficient =
               (c.from.result * c.from-in-loop-t.result) % c.from-m.result;
-        }) c.args.c c.added_powers.ensures
+        }) c.args.c (c.times.ensures ∙
+        ap (λ (t : Term). add_keys 8 (key_of c.args.x.now.monomial) (key_of t.monomial)) c.t-item.is)
         value c.loop-t.invariant.built

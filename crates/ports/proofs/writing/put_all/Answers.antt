@@ -1,4 +1,4 @@
-use Rattle.std.proofs.Common.{refl, arith}
+use Rattle.std.proofs.Common.{◌∙◌, refl, arith}
 use Rattle.ports.proofs.WritingLemmas.{WritesAll-more}
 use Rattle.ports.proofs.writing.put_all.Goals as goal
 
@@ -9,5 +9,5 @@ loop-done-preserved g c =
     record {
       within = omega (arith, c.in-Took.ensures.count.1);
       written = WritesAll-more _ _ _ c.args.piece.now _ c.loop-done.done c.in-Took.count refl before adds;
-      faults = omega arith;
+      no_fault = c.in-Took.ensures.no_fault (λ e. cc) ∙ c.loop-done.invariant.no_fault;
     }

@@ -1,4 +1,4 @@
-use Rattle.std.proofs.Common.{length, take, ◌-◌, ◌≤◌}
+use Rattle.std.proofs.Common.{◌≡◌, length, take, ◌-◌, ◌≤◌}
 use Rattle.ports.specs.Bytes.{WritesAll}
 use Rattle.ports.proofs.writing.put_all.Given as goal
 
@@ -6,7 +6,7 @@ abbrev pub invariant-loop-done : goal.invariant-loop-done
 invariant-loop-done g l = record {
   within : l.done ≤ length l.piece;
   written : WritesAll (g.K.Sink.written l.initial.sink) (g.K.Sink.written l.sink) (take l.done l.piece);
-  faults : g.K.Sink.faults l.initial.sink ≤ g.K.Sink.faults l.sink;
+  no_fault : g.K.Sink.faults l.sink ≡ g.K.Sink.faults l.initial.sink;
 }
 
 abbrev pub decreases-loop-done : goal.decreases-loop-done

@@ -5,8 +5,8 @@ use Rattle.parts.specs.RowsOfParts.{parts_of, parts_in}
 use Rattle.prepare.specs.Recurrence.{slices, Subtracts}
 use Rattle.prepare.proofs.recurrence.subtract_all.Given as goal
 
-abbrev pub invariant-loop-i : goal.invariant-loop-i
-invariant-loop-i l = Subtracts l.fn.known.ring l.fn.sum l.sum (sum_between 0 l.i
-    (λ i. crossed_product (length l.fn.known.rows_p.now)
+abbrev pub invariant-loop-h : goal.invariant-loop-h
+invariant-loop-h l = Subtracts l.fn.known.ring l.fn.sum l.sum (sum_between 0 l.h
+    (λ h. crossed_product (length l.fn.known.rows_p.now)
     (slices l.fn.known.ring (parts_in l.fn.known.rows_p.now ++ parts_of l.fn.last ∷ []))
-    (slices l.fn.known.ring (parts_in l.fn.known.rows_u.now)) i (l.fn.l - i)))
+    (slices l.fn.known.ring (parts_in l.fn.known.rows_u.now)) h (l.fn.l - h)))

@@ -18,15 +18,15 @@ pub loop-s-init : goal.loop-s-init
 loop-s-init c = subtracts-none c.args.known.now.ring c.args.sum.now 1 1 (λ s. product
     (slices c.args.known.now.ring (parts_in c.args.known.now.rows_p.now ++ parts_of c.args.last.now ∷ []) s c.args.i)
     (slices c.args.known.now.ring (parts_in c.args.known.now.rows_u.now) (length c.args.known.now.rows_p.now - s)
-    c.args.h)) (omega arith)
+    c.args.j)) (omega arith)
 
 pub index-requires : goal.index-requires
 index-requires c =
     let low : length c.args.known.now.rows_p.now - c.loop-s.s < length c.args.known.now.rows_u.now = omega arith in
     let long = row_length c.args.known.now.ring c.args.known.now.q c.args.known.now.rows_u.now c.requires.u_rows _
     c.index-known-r.result low c.index-known-r.is in
-    let within : c.args.h < vec_len c.index-known-r.result = omega arith in
-    subst (λ (v : Vec (Arc PartValue Global) Global). c.args.h < vec_len v) c.index-known-r.is within
+    let within : c.args.j < vec_len c.index-known-r.result = omega arith in
+    subst (λ (v : Vec (Arc PartValue Global) Global). c.args.j < vec_len v) c.index-known-r.is within
 
 left : (c : goal.After-deref) → IsPartAt c.args.known.now.ring c.loop-s.s c.at.result.now
 left c =
@@ -39,9 +39,9 @@ left c =
 
 right_is : (c : goal.After-deref) → c.deref.result.now
     ≡ part_in (get_or (parts_in c.args.known.now.rows_u.now) (length c.args.known.now.rows_p.now - c.loop-s.s) [])
-    c.args.h
+    c.args.j
 right_is c = part_found c.args.known.now.ring c.args.known.now.q c.args.known.now.rows_u.now c.requires.u_rows
-    (length c.args.known.now.rows_p.now - c.loop-s.s) c.args.h c.index-known-r.result c.index.result.now
+    (length c.args.known.now.rows_p.now - c.loop-s.s) c.args.j c.index-known-r.result c.index.result.now
     c.deref.result.now (omega arith) c.requires.places.1 c.index-known-r.is c.index.ensures c.deref.ensures
 
 right : (c : goal.After-deref)
@@ -50,7 +50,7 @@ right c =
     let count = rows_count c.args.known.now.rows_u.now in
     subst (IsPartAt c.args.known.now.ring (length c.args.known.now.rows_p.now - c.loop-s.s)) (sym (right_is c))
     (part_there c.args.known.now.ring c.args.known.now.q (parts_in c.args.known.now.rows_u.now) c.requires.u_rows
-    (length c.args.known.now.rows_p.now - c.loop-s.s) c.args.h (omega arith) c.requires.places.1)
+    (length c.args.known.now.rows_p.now - c.loop-s.s) c.args.j (omega arith) c.requires.places.1)
 
 pub add_product-requires-clause-degrees : goal.add_product-requires-clause-degrees
 add_product-requires-clause-degrees c =
@@ -70,16 +70,16 @@ loop-s-preserved c =
     (λ s. product (slices c.args.known.now.ring
     (parts_in c.args.known.now.rows_p.now ++ parts_of c.args.last.now ∷ []) s c.args.i)
     (slices c.args.known.now.ring (parts_in c.args.known.now.rows_u.now) (length c.args.known.now.rows_p.now - s)
-    c.args.h))
+    c.args.j))
     (product (poly c.args.known.now.ring c.at.result.now) (poly c.args.known.now.ring c.deref.result.now))
     (omega arith) c.loop-s.invariant
     (subtracts-product c.args.known.now.ring c.loop-s.sum c.add_product.new.self c.at.result.now c.deref.result.now
     (c.loop-s.invariant.ring_is ∙ c.requires.ring) c.in_ok-add_product.ensures.ok)
     (products_are c.args.known.now.ring (parts_in c.args.known.now.rows_p.now ++ parts_of c.args.last.now ∷ [])
     (parts_in c.args.known.now.rows_u.now) c.loop-s.s c.args.i (length c.args.known.now.rows_p.now - c.loop-s.s)
-    c.args.h c.at.result.now c.deref.result.now c.at.ensures
+    c.args.j c.at.result.now c.deref.result.now c.at.ensures
     (part_found c.args.known.now.ring c.args.known.now.q c.args.known.now.rows_u.now c.requires.u_rows
-    (length c.args.known.now.rows_p.now - c.loop-s.s) c.args.h c.index-known-r.result c.index.result.now
+    (length c.args.known.now.rows_p.now - c.loop-s.s) c.args.j c.index-known-r.result c.index.result.now
     c.deref.result.now (omega arith) c.requires.places.1 c.index-known-r.is c.index.ensures c.deref.ensures))
 
 pub returns : goal.returns
@@ -88,4 +88,4 @@ returns c =
     subst (λ n. Subtracts c.args.known.now.ring c.args.sum.now c.loop-s.sum (sum_between 1 n (λ s. product
     (slices c.args.known.now.ring (parts_in c.args.known.now.rows_p.now ++ parts_of c.args.last.now ∷ []) s c.args.i)
     (slices c.args.known.now.ring (parts_in c.args.known.now.rows_u.now) (length c.args.known.now.rows_p.now - s)
-    c.args.h)))) end c.loop-s.invariant
+    c.args.j)))) end c.loop-s.invariant

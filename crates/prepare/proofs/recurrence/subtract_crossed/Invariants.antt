@@ -7,4 +7,4 @@ use Rattle.prepare.proofs.recurrence.subtract_crossed.Given as goal
 abbrev pub invariant-loop-s : goal.invariant-loop-s
 invariant-loop-s l = Subtracts l.fn.known.ring l.fn.sum l.sum (sum_between 1 l.s (λ s. product
     (slices l.fn.known.ring (parts_in l.fn.known.rows_p.now ++ parts_of l.fn.last ∷ []) s l.fn.i)
-    (slices l.fn.known.ring (parts_in l.fn.known.rows_u.now) (length l.fn.known.rows_p.now - s) l.fn.h)))
+    (slices l.fn.known.ring (parts_in l.fn.known.rows_u.now) (length l.fn.known.rows_p.now - s) l.fn.j)))

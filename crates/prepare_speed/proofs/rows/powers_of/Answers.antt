@@ -14,7 +14,7 @@ loop-k-preserved c =
     let before = power_read c.args.ring c.loop-k.powers.items c.loop-k.k c.index.result.now c.loop-k.invariant.powers
     within c.index.ensures in
     let low = before.0 in
-    let one = c.in_ok-variable.ensures.degree in
+    let one = c.in_ok-variable.ensures.degree ∙ c.requires.weight in
     let degree = c.in_ok-next.ensures.degree in
     let high : c.in_ok-next.next.degree ≡ length c.loop-k.powers.items = omega (arith, low, one, degree) in
     record {

@@ -6,7 +6,7 @@ use Rattle.std.specs.declared.sync.Arc.{Arc}
 use Rattle.std.specs.declared.vec.Vec.{Vec}
 use Rattle.parts.specs.PartValue.{PartValue}
 use Rattle.parts.specs.RowsOfParts.{parts_of, parts_in, IsRowOfParts, AreRowsOfParts}
-use Rattle.prepare_speed.proofs.Powers.{rows_more}
+use Rattle.prepare.proofs.Stepped.{rows_more}
 use Rattle.prepare_speed.proofs.rows.rows_up_to.Goals as goal
 
 pub loop-r-preserved : goal.loop-r-preserved

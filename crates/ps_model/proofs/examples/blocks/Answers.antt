@@ -6,9 +6,10 @@ use Rattle.ps_model.specs.Polynomial.{polynomial, terms}
 use Rattle.ps_model.specs.SeriesRing.{SeriesRing, ring}
 use Rattle.ps_model.specs.Job.{series_ring, job_ring}
 use Rattle.ps_model.specs.Examples.{key, split_job, split_factors, two_variables, double_root_job}
-use Rattle.ps_model.specs.Examples.{double_root_factors, double_root_start, quadratic_job, quadratic_factors}
+use Rattle.ps_model.specs.Examples.{one_each, ring_modulo, double_root_factors, double_root_start, quadratic_job, quadratic_factors}
 use Rattle.ps_model.specs.BlockText.{power_line, block_text}
 use Rattle.ps_model.proofs.FormalSums.{terms_are}
+use Rattle.ps_model.proofs.WrittenTerms.{two_variables-terms}
 use Rattle.ps_model.proofs.examples.blocks.Goals as goal
 
 abbrev S : SeriesRing
@@ -102,38 +103,12 @@ unfolding series_ring digits
 quadratic_block = rw (near_ten_terms, near_ninety_one_terms) refl
 
 abbrev R : SeriesRing
-R = series_ring 7
-
-abbrev unordered : List (Key R.variables × ℕ)
-unordered = (key R.variables (0 ∷ 2 ∷ []) 0, 6) ∷ (key R.variables (1 ∷ []) 1, 1) ∷ (key R.variables (1 ∷ []) 0, 3)
-    ∷ (key R.variables (2 ∷ []) 0, 1) ∷ (key R.variables [] 0, 5) ∷ (key R.variables (1 ∷ 1 ∷ []) 0, 4)
-    ∷ (key R.variables (0 ∷ 1 ∷ []) 0, 2) ∷ []
-
-abbrev ordered : List (Key R.variables × ℕ)
-ordered = (key R.variables (1 ∷ []) 1, 1) ∷ (key R.variables (2 ∷ []) 0, 1) ∷ (key R.variables (1 ∷ 1 ∷ []) 0, 4)
-    ∷ (key R.variables (1 ∷ []) 0, 3) ∷ (key R.variables (0 ∷ 2 ∷ []) 0, 6) ∷ (key R.variables (0 ∷ 1 ∷ []) 0, 2)
-    ∷ (key R.variables [] 0, 5) ∷ []
-
-all_terms : terms (ring R) (polynomial (ring R) unordered) ≡ ordered
-unfolding series_ring
-all_terms = terms_are (ring R) unordered ordered refl tt (
-  lit< tt,
-  lit< tt,
-  (
-    lit< tt,
-    lit< tt,
-    (
-      lit< tt,
-      lit< tt,
-      (lit< tt, lit< tt, (lit< tt, lit< tt, (lit< tt, lit< tt, (lit< tt, lit< tt, tt)))),
-    ),
-  ),
-)
+R = ring_modulo 7
 
 the_line : power_line R (codes "x" ∷ codes "z" ∷ []) 2 (two_variables R) 0
     ≡ codes "Y^0: 5 + 3*x + 2*z + 1*x^2 + 4*x*z + 6*z^2\n"
 unfolding series_ring digits
-the_line = rw all_terms refl
+the_line = rw (two_variables-terms one_each) refl
 
 pub returns : goal.returns
 returns c = record { split = the_block; double = double; start = start; quadratic = quadratic_block; line = the_line }

@@ -13,9 +13,10 @@ use Rattle.ps_model.specs.Tree.{has_y}
 use Rattle.ps_model.specs.SeriesRing.{ring, Poly}
 use Rattle.ps_model.specs.Value.{IsValue}
 use Rattle.ps_model.specs.Notation.{constant_term}
-use Rattle.ps_model.specs.Job.{series_ring, Fails, IsFault, DividesByY}
+use Rattle.ps_model.specs.Divisions.{Fails}
+use Rattle.ps_model.specs.Job.{job_ring, series_ring, IsFault, DividesByY}
 use Rattle.ps_model.specs.Examples.{job, root, x, number, divided, added, one_over_x, one_over_two_plus_x}
-use Rattle.ps_model.specs.Examples.{double_division}
+use Rattle.ps_model.specs.Examples.{double_division, ring_modulo}
 use Rattle.ps_model.proofs.Coefficients.{coefficient-polynomial}
 use Rattle.ps_model.proofs.Evaluated.{evaluated, only_value}
 use Rattle.ps_model.proofs.FaultOrder.{one_member, two_members, first_not_unit}
@@ -51,24 +52,24 @@ double_by_y k ((d, (some, at), has), least) = elim (two_members (divided (number
 ]
 
 -- divisions are counted from 1
-positive : (j : JobData) (k : ℕ) → ((c : ℕ) × Fails j k c) → 1 ≤ k
+positive : (j : JobData) (k : ℕ) → ((c : ℕ) × Fails (job_ring j) j.expr k c) → 1 ≤ k
 positive j k (c, (d, (some, at), v, is, at', not_unit)) = omega arith
 
 -- 1 / x has no value
-no_value : (v : Poly (series_ring 7)) → IsValue (series_ring 7) 0 (divided (number 1) x) v → ⊥
+no_value : (v : Poly (ring_modulo 7)) → IsValue (ring_modulo 7) 0 (divided (number 1) x) v → ⊥
 unfolding series_ring hidden-the_row-Summand-0 shape-the_row-Summand-0 hidden-the_row-Factor-1 shape-the_row-Factor-1
     hidden-the_row-Expr-2 hidden
 no_value v (first, is, (w, next, is', (no_y, unit, quotient), later)) =
-    no_zero (subst (IsUnit 7) (ap (λ q. constant_term q) (only_value (series_ring 7) 0 x tt w is')
-    ∙ coefficient-polynomial (ring (series_ring 7)) (evaluated (series_ring 7) 0 x)
-    (y_key (series_ring 7).variables 0)) unit)
+    no_zero (subst (IsUnit 7) (ap (λ q. constant_term q) (only_value (ring_modulo 7) 0 x tt w is')
+    ∙ coefficient-polynomial (ring (ring_modulo 7)) (evaluated (ring_modulo 7) 0 x)
+    (y_key (ring_modulo 7).variables 0)) unit)
 
-second : (k : ℕ) → ((c : ℕ) × Fails double k c) → 2 ≤ k
+second : (k : ℕ) → ((c : ℕ) × Fails (job_ring double) double.expr k c) → 2 ≤ k
 unfolding series_ring hidden-the_row-Summand-0 shape-the_row-Summand-0 hidden-the_row-Factor-1 shape-the_row-Factor-1
     hidden-the_row-Expr-2 hidden
 second zero (c, (d, (some, at), v, is, at', not_unit)) = absurd (omega arith)
 second (suc zero) (c, (d, (some, at), v, is, at', not_unit)) =
-    absurd (no_value v (subst (λ d. IsValue (series_ring 7) 0 d v) (first d at) is))
+    absurd (no_value v (subst (λ d. IsValue (ring_modulo 7) 0 d v) (first d at) is))
   where
     first : (d : Expr) → Some (divided (number 1) x) ≡ Some d → d ≡ divided (number 1) x
     first d e = cc

@@ -4,7 +4,8 @@ use Rattle.ps_model.specs.declared.expr.Expr.TheBlock.{hidden-the_row-Factor-1, 
 use Rattle.ps_model.specs.declared.expr.Expr.TheBlock.{hidden-the_row-Expr-2}
 use denote.Hole.Carrier.{hidden}
 use Rattle.ps_model.specs.declared.expr.Expr.{Expr}
-use Rattle.ps_model.specs.Job.{series_ring, IsByY}
+use Rattle.ps_model.specs.Divisions.{IsByY}
+use Rattle.ps_model.specs.Job.{series_ring}
 use Rattle.ps_model.specs.Examples.{job, root, y, raised, y_plus_one, tower, two_y_squared, one_over_y}
 use Rattle.ps_model.proofs.Leads.{not_one}
 use Rattle.ps_model.proofs.FaultOrder.{no_division_by_y, first_by_y, first_nodes, first_degree, first_not_monic}

@@ -13,7 +13,8 @@ use Rattle.ps_model.specs.declared.job.JobData.{JobData}
 use Rattle.ps_model.specs.declared.job.Root.{Root}
 use Rattle.ps_model.specs.Bounds.{IsUnit}
 use Rattle.ps_model.specs.Tree.{has_y}
-use Rattle.ps_model.specs.Job.{series_ring, Fails, IsByY, IsPairTooNear, IsFault, DividesByY}
+use Rattle.ps_model.specs.Divisions.{IsByY, Fails}
+use Rattle.ps_model.specs.Job.{job_ring, series_ring, IsPairTooNear, IsFault, DividesByY}
 use Rattle.ps_model.specs.Examples.{job, root, x, y, over_x_and_y, power_zero_of_quotient, fourth_power_plus_x}
 use Rattle.ps_model.proofs.FaultOrder.{one_member, no_division_by_y, first_by_y, first_not_unit, first_not_apart}
 use Rattle.ps_model.proofs.AtOrigin.{fails, no_zero, gcd_zero, unit}
@@ -41,7 +42,7 @@ unfolding series_ring hidden-the_row-Summand-0 shape-the_row-Summand-0 hidden-th
 powered_by_y k ((d, (some, at), has), least) = without_y d x refl ((one_member x d (k - 1) at).1) has
 
 -- divisions are counted from 1
-positive : (j : JobData) (k : ℕ) → ((c : ℕ) × Fails j k c) → 1 ≤ k
+positive : (j : JobData) (k : ℕ) → ((c : ℕ) × Fails (job_ring j) j.expr k c) → 1 ≤ k
 positive j k (c, (d, (some, at), v, is, at', not_unit)) = omega arith
 
 abbrev four : JobData

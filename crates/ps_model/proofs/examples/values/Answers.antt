@@ -10,7 +10,7 @@ use Rattle.ps_model.specs.Notation.{constant_term}
 use Rattle.ps_model.specs.SeriesRing.{SeriesRing, ring, Poly}
 use Rattle.ps_model.specs.Value.{IsValue}
 use Rattle.ps_model.specs.Job.{series_ring}
-use Rattle.ps_model.specs.Examples.{x, y, number, divided, raised, two_x_three_x}
+use Rattle.ps_model.specs.Examples.{ring_modulo, x, y, number, divided, raised, two_x_three_x}
 use Rattle.ps_model.proofs.Coefficients.{coefficient-polynomial}
 use Rattle.ps_model.proofs.FormalSums.{same_sums, zero_listed, one_listed}
 use Rattle.ps_model.proofs.Evaluated.{evaluated, is_value, only_value}
@@ -19,10 +19,10 @@ use Rattle.ps_model.proofs.Divided.{geometric_value}
 use Rattle.ps_model.proofs.examples.values.Goals as goal
 
 abbrev S : SeriesRing
-S = series_ring 7
+S = ring_modulo 7
 
 abbrev T : SeriesRing
-T = series_ring 6
+T = ring_modulo 6
 
 vanishing : IsValue T 2 two_x_three_x (nought (ring T))
 unfolding series_ring hidden-the_row-Summand-0 shape-the_row-Summand-0 hidden-the_row-Factor-1 shape-the_row-Factor-1

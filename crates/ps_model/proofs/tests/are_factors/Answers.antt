@@ -1,8 +1,8 @@
 -- proofs/tests/are_factors/Answers.antt
 use Rattle.std.proofs.Common.{[], ◌∷◌}
 use Rattle.std.proofs.lemmas.List.Elements.{All-cons, All-nil}
-use Rattle.ps_model.specs.PlainPolynomial.{small_key, HasResiduesBelow}
-use Rattle.ps_model.proofs.PlainBounds.{two_in_range, residues_from, small_twice}
+use Rattle.ps_model.specs.PlainPolynomial.{small_key, HasResiduesBelow, HasKeysWithin}
+use Rattle.ps_model.proofs.PlainBounds.{all_in_range, residues_from, small_twice}
 use Rattle.ps_model.proofs.tests.are_factors.Goals as goal
 
 pub plain_is_factors-requires-clause-input_residues : goal.plain_is_factors-requires-clause-input_residues
@@ -15,5 +15,7 @@ plain_is_factors-requires-clause-residues c = All-cons (HasResiduesBelow 101) c.
     (All-nil (HasResiduesBelow 101)))
 
 pub plain_is_factors-requires-clause-in_range : goal.plain_is_factors-requires-clause-in_range
-plain_is_factors-requires-clause-in_range c = two_in_range small_key c.in_ok-f.f c.in_ok-g.g c.in_ok-f.ensures.within
-    c.in_ok-g.ensures.within small_twice
+plain_is_factors-requires-clause-in_range c = all_in_range small_key (c.in_ok-f.f ∷ c.in_ok-g.g ∷ [])
+    (All-cons (HasKeysWithin small_key) c.in_ok-f.f (c.in_ok-g.g ∷ []) c.in_ok-f.ensures.within
+    (All-cons (HasKeysWithin small_key) c.in_ok-g.g [] c.in_ok-g.ensures.within (All-nil (HasKeysWithin small_key))))
+    small_twice

@@ -13,9 +13,10 @@ loop-x-init c = record {
 
 pub loop-x-preserved : goal.loop-x-preserved
 loop-x-preserved c = let x_small : c.min-x.result ≤ 3 = omega (arith, c.min-x.ensures) in
+    let z_small : c.min-z.result ≤ 3 = omega (arith, c.min-z.ensures) in
     let y_small : c.min.result ≤ 3 = omega (arith, c.min.ensures) in record {
       within = within_after small_key c.loop-x.p c.put.new.self _ _
-          (small_within c.min-x.result c.min.result x_small y_small _ refl) c.loop-x.invariant.within
+          (small_within c.min-x.result c.min-z.result c.min.result x_small z_small y_small _ refl) c.loop-x.invariant.within
           c.in_ok-put.ensures.ok;
       residues = values_after 101 c.loop-x.p c.put.new.self _ _ (omega arith) (mod-lt _ (omega arith))
           c.loop-x.invariant.residues

@@ -33,6 +33,12 @@ returns-in_err-raise_one-clause-err g c = on_err _ _
     (at_stage _ c.loop-s.stages c.loop-s.s c.index-stages-s.result (omega arith) (λ s. length s.items ≡ c.args.r)
     (sym c.len.ensures ∙ c.if-len-r.true)))
 
+pub returns-in_err-raise_one-clause-there : goal.returns-in_err-raise_one-clause-there
+returns-in_err-raise_one-clause-there g c = λ have.
+    absurd (lacks c.args.r c.loop-s.s _ _ _ _ (seen _ c.args.stages.now c.loop-s.s (omega arith))
+    c.loop-s.invariant.round (at_stage _ c.loop-s.stages c.loop-s.s c.index-stages-s.result (omega arith)
+    (λ s. length s.items ≡ c.args.r) (sym c.len.ensures ∙ c.if-len-r.true)) have)
+
 pub loop-s-preserved : goal.loop-s-preserved
 loop-s-preserved g c = elim c.if-len-r.branch [
   | then-len-r+in_ok-raise_one w ↦ record {
@@ -41,6 +47,9 @@ loop-s-preserved g c = elim c.if-len-r.branch [
         w.in_ok-raise_one.ensures.grow w.in_ok-raise_one.ensures.ok w.in_ok-raise_one.ensures.falling
         w.in_ok-raise_one.ensures.ticks);
     source = ap g.I.RowSource.job w.input-is ∙ w.in_ok-raise_one.ensures.source ∙ c.loop-s.invariant.source;
+    there = λ have. absurd (lacks c.args.r c.loop-s.s _ _ _ _ (seen _ c.args.stages.now c.loop-s.s (omega arith))
+        c.loop-s.invariant.round (at_stage _ c.loop-s.stages c.loop-s.s c.index-stages-s.result (omega arith)
+        (λ s. length s.items ≡ c.args.r) (sym c.len.ensures ∙ w.if-len-r.true)) have);
   }
   | else-len-r w ↦ record {
     round = round_moved _ _ _ _ _ _ _ _ _ w.stages-is w.tally-is
@@ -52,5 +61,6 @@ loop-s-preserved g c = elim c.if-len-r.branch [
         (seen _ c.loop-s.stages c.loop-s.s (omega arith))) in
         omega (arith, c.len.ensures, w.if-len-r.false))));
     source = ap g.I.RowSource.job w.input-is ∙ c.loop-s.invariant.source;
+    there = λ have. w.input-is ∙ c.loop-s.invariant.there have;
   }
 ]

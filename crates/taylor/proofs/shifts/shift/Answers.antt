@@ -3,13 +3,13 @@ use Rattle.std.specs.Arc.{arc_value}
 use Rattle.std.specs.declared.alloc.Global.{Global}
 use Rattle.std.specs.declared.sync.Arc.{Arc}
 use Rattle.std.specs.declared.vec.Vec.{Vec}
-use Rattle.std.proofs.lemmas.List.{length_push, length-map}
+use Rattle.std.proofs.lemmas.List.{length_push}
 use Rattle.std.proofs.lemmas.Result.{IfOk-weaker}
 use Rattle.parts.specs.PartValue.{PartValue}
 use Rattle.parts.specs.RowsOfParts.{parts_of}
 use Rattle.taylor.specs.Shifts.{IsPartOfShift}
 use Rattle.taylor.proofs.PartRows.{parts_more}
-use Rattle.taylor.proofs.ShiftedRows.{is_row, is_shifted}
+use Rattle.taylor.proofs.ShiftedRows.{made_row, made_shifted}
 use Rattle.taylor.proofs.Unshifted.{same_row}
 use Rattle.taylor.proofs.shifts.shift.Goals as goal
 
@@ -34,23 +34,9 @@ loop-i-preserved c =
     }
 
 pub returns-clause-parts : goal.returns-clause-parts
-returns-clause-parts c K r is = is_row c.args.ring c.args.c K r (parts_of c.args.row.now)
-    (parts_of c.loop-i.shifted.items) is
-    (omega (
-      arith,
-      length-map c.args.row.now arc_value,
-      length-map c.loop-i.shifted.items arc_value,
-      c.loop-i.invariant.count,
-    ))
-    (λ i other lt. c.loop-i.invariant.part i other (omega (arith, length-map c.args.row.now arc_value)))
+returns-clause-parts c = made_row c.args.ring c.args.c c.loop-i.i c.args.row.now c.loop-i.shifted.items
+    c.loop-i.invariant.count (omega arith) c.loop-i.invariant.part
 
 pub returns-clause-shifted : goal.returns-clause-shifted
-returns-clause-shifted c K r is = is_shifted c.args.ring c.args.c K r (parts_of c.args.row.now)
-    (parts_of c.loop-i.shifted.items) is
-    (omega (
-      arith,
-      length-map c.args.row.now arc_value,
-      length-map c.loop-i.shifted.items arc_value,
-      c.loop-i.invariant.count,
-    ))
-    (λ i other lt. c.loop-i.invariant.part i other (omega (arith, length-map c.args.row.now arc_value)))
+returns-clause-shifted c = made_shifted c.args.ring c.args.c c.loop-i.i c.args.row.now c.loop-i.shifted.items
+    c.loop-i.invariant.count (omega arith) c.loop-i.invariant.part

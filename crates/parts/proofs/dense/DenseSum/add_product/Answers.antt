@@ -1,370 +1,64 @@
-use Rattle.std.proofs.Common.{◌≡◌, ℕ, ◌+◌, ◌*◌, ◌%◌, ◌^◌, ◌<◌, ◌≤◌, ◌∙◌, ap, sym, subst, arith, length, take, map}
-use Rattle.std.proofs.Common.{All, ◌++◌}
-use Rattle.std.specs.FinMap.{entries, from_entries}
-use Rattle.ps_model.specs.Keys.{key_compare, add_keys}
-use Rattle.ps_model.specs.FiniteMaps.{collected}
-use Rattle.ps_model.specs.Sums.{multiples, products}
-use Rattle.parts.specs.Cells.{cells_total}
-use Rattle.parts.specs.Places.{size, multipliers}
-use Rattle.parts.specs.Terms.{placed_term, products_total, sign, finished, key_at}
-use Rattle.parts.specs.PartValue.{IsPartOf}
-use Rattle.parts.specs.AccumulatorValue.{AccumulatorValue, with_product, cells_map}
-use Rattle.parts.proofs.Ordered.{ArePositive}
+use Rattle.std.proofs.Common.{◌∙◌, ap, refl, sym, arith, length, map}
+use Rattle.parts.specs.Rings.{modulus_of, weights_of}
+use Rattle.parts.specs.AccumulatorValue.{cells_map}
+use Rattle.parts.proofs.Added.{terms_fit, terms_below, row_small, rows_fit, after_rows}
 use Rattle.parts.proofs.Totals.{put_back}
-use Rattle.parts.proofs.Gained.{positive_take, long_take, places_fit, coefficients_below, row_below, places_inside}
-use Rattle.parts.proofs.Gained.{gained}
 use Rattle.parts.proofs.dense.DenseSum.add_product.Goals as goal
 
 pub place_terms-requires-clause-fits : goal.place_terms-requires-clause-fits
 place_terms-requires-clause-fits c =
-    places_fit c.self.inside.ring.modulus.value (take c.self.inside.ring.n c.self.inside.ring.weights) some few
-    positive c.args.b.now.degree c.terms.result.now (entries c.args.b.now.map) c.terms.ensures.entries b_part
-    c.self.inside.degree (take c.n-n.result c.ready_cells.new.sizes) sizes (omega (arith, sum)) small
-  where
-    at_ws : take c.n-n.result c.weights-weights.result ≡ take c.self.inside.ring.n c.self.inside.ring.weights
-    at_ws = λ i. take (c.n-n.ensures.variables i) (c.weights-weights.ensures i)
-
-    long : length (take c.self.inside.ring.n c.self.inside.ring.weights) ≡ c.self.inside.ring.n
-    long = long_take c.self.inside.ring.n c.self.inside.ring.weights (let h = c.self.inside.ring.few in
-        omega (arith, c.self.inside.ring.many))
-
-    some : 0 < length (take c.self.inside.ring.n c.self.inside.ring.weights)
-    some = let h = c.self.inside.ring.some in omega (arith, long)
-
-    few : length (take c.self.inside.ring.n c.self.inside.ring.weights) ≤ 8
-    few = let h = c.self.inside.ring.few in omega (arith, long)
-
-    positive : ArePositive (take c.self.inside.ring.n c.self.inside.ring.weights)
-    positive = positive_take c.self.inside.ring.n c.self.inside.ring.weights c.self.inside.ring.positive
-
-    a_part : IsPartOf c.self.inside.ring c.args.a.now
-    a_part = subst (λ s. IsPartOf s.ring c.args.a.now) (sym c.self.view_is) c.requires.a_part
-
-    b_part : IsPartOf c.self.inside.ring c.args.b.now
-    b_part = subst (λ s. IsPartOf s.ring c.args.b.now) (sym c.self.view_is) c.requires.b_part
-
-    sum : c.args.a.now.degree + c.args.b.now.degree ≡ c.self.inside.degree
-    sum = c.requires.degrees ∙ sym (ap (λ s. s.degree) c.self.view_is)
-
-    sizes : take c.n-n.result c.ready_cells.new.sizes ≡
-        multipliers c.self.inside.degree (take c.self.inside.ring.n c.self.inside.ring.weights)
-    sizes = (λ i. take ((c.n-n.ensures.variables ∙ sym long) i) c.ready_cells.new.sizes) ∙
-        subst (λ l. take (length l) c.ready_cells.new.sizes ≡ multipliers c.self.inside.degree l) at_ws
-        c.in_ok-ready_cells.ensures.sizes
-
-    small : size c.self.inside.degree (take c.self.inside.ring.n c.self.inside.ring.weights) ≤ 2 ^ 24
-    small = subst (λ l. size c.self.inside.degree l ≤ 2 ^ 24) at_ws c.in_ok-ready_cells.ensures.few
-
-    cells_long : length c.ready_cells.new.cells.items ≡
-        size c.self.inside.degree (take c.self.inside.ring.n c.self.inside.ring.weights)
-    cells_long = subst (λ l. length c.ready_cells.new.cells.items ≡ size c.self.inside.degree l) at_ws
-        c.in_ok-ready_cells.ensures.length
+    terms_fit _ _ c.self.view_is c.n-n.result c.weights-weights.result c.ready_cells.new.sizes
+    c.ready_cells.new.cells.items c.n-n.ensures.variables c.weights-weights.ensures c.in_ok-ready_cells.ensures.length
+    c.in_ok-ready_cells.ensures.few c.in_ok-ready_cells.ensures.sizes c.args.b.now c.terms.result.now
+    c.terms.ensures.entries c.requires.b_part (omega (arith, c.requires.degrees))
 
 pub add_rows-requires-clause-fits : goal.add_rows-requires-clause-fits
 add_rows-requires-clause-fits c =
-    places_fit c.self.inside.ring.modulus.value (take c.self.inside.ring.n c.self.inside.ring.weights) some few
-    positive c.args.a.now.degree c.terms-2.result.now (entries c.args.a.now.map) c.terms-2.ensures.entries a_part
-    c.self.inside.degree (take c.n-n.result c.ready_cells.new.sizes) sizes (omega (arith, sum)) small
-  where
-    at_ws : take c.n-n.result c.weights-weights.result ≡ take c.self.inside.ring.n c.self.inside.ring.weights
-    at_ws = λ i. take (c.n-n.ensures.variables i) (c.weights-weights.ensures i)
-
-    long : length (take c.self.inside.ring.n c.self.inside.ring.weights) ≡ c.self.inside.ring.n
-    long = long_take c.self.inside.ring.n c.self.inside.ring.weights (let h = c.self.inside.ring.few in
-        omega (arith, c.self.inside.ring.many))
-
-    some : 0 < length (take c.self.inside.ring.n c.self.inside.ring.weights)
-    some = let h = c.self.inside.ring.some in omega (arith, long)
-
-    few : length (take c.self.inside.ring.n c.self.inside.ring.weights) ≤ 8
-    few = let h = c.self.inside.ring.few in omega (arith, long)
-
-    positive : ArePositive (take c.self.inside.ring.n c.self.inside.ring.weights)
-    positive = positive_take c.self.inside.ring.n c.self.inside.ring.weights c.self.inside.ring.positive
-
-    a_part : IsPartOf c.self.inside.ring c.args.a.now
-    a_part = subst (λ s. IsPartOf s.ring c.args.a.now) (sym c.self.view_is) c.requires.a_part
-
-    b_part : IsPartOf c.self.inside.ring c.args.b.now
-    b_part = subst (λ s. IsPartOf s.ring c.args.b.now) (sym c.self.view_is) c.requires.b_part
-
-    sum : c.args.a.now.degree + c.args.b.now.degree ≡ c.self.inside.degree
-    sum = c.requires.degrees ∙ sym (ap (λ s. s.degree) c.self.view_is)
-
-    sizes : take c.n-n.result c.ready_cells.new.sizes ≡
-        multipliers c.self.inside.degree (take c.self.inside.ring.n c.self.inside.ring.weights)
-    sizes = (λ i. take ((c.n-n.ensures.variables ∙ sym long) i) c.ready_cells.new.sizes) ∙
-        subst (λ l. take (length l) c.ready_cells.new.sizes ≡ multipliers c.self.inside.degree l) at_ws
-        c.in_ok-ready_cells.ensures.sizes
-
-    small : size c.self.inside.degree (take c.self.inside.ring.n c.self.inside.ring.weights) ≤ 2 ^ 24
-    small = subst (λ l. size c.self.inside.degree l ≤ 2 ^ 24) at_ws c.in_ok-ready_cells.ensures.few
-
-    cells_long : length c.ready_cells.new.cells.items ≡
-        size c.self.inside.degree (take c.self.inside.ring.n c.self.inside.ring.weights)
-    cells_long = subst (λ l. length c.ready_cells.new.cells.items ≡ size c.self.inside.degree l) at_ws
-        c.in_ok-ready_cells.ensures.length
+    terms_fit _ _ c.self.view_is c.n-n.result c.weights-weights.result c.ready_cells.new.sizes
+    c.ready_cells.new.cells.items c.n-n.ensures.variables c.weights-weights.ensures c.in_ok-ready_cells.ensures.length
+    c.in_ok-ready_cells.ensures.few c.in_ok-ready_cells.ensures.sizes c.args.a.now c.terms-2.result.now
+    c.terms-2.ensures.entries c.requires.a_part (omega (arith, c.requires.degrees))
 
 pub add_rows-requires-clause-below : goal.add_rows-requires-clause-below
 add_rows-requires-clause-below c =
-    subst (λ n. All (λ t. t.coefficient < n) c.terms-2.result.now) (sym (c.modulus-modulus.ensures))
-    (coefficients_below c.self.inside.ring.modulus.value (take c.self.inside.ring.n c.self.inside.ring.weights)
-    some few positive c.args.a.now.degree c.terms-2.result.now (entries c.args.a.now.map)
-    c.terms-2.ensures.entries a_part)
-  where
-    at_ws : take c.n-n.result c.weights-weights.result ≡ take c.self.inside.ring.n c.self.inside.ring.weights
-    at_ws = λ i. take (c.n-n.ensures.variables i) (c.weights-weights.ensures i)
-
-    long : length (take c.self.inside.ring.n c.self.inside.ring.weights) ≡ c.self.inside.ring.n
-    long = long_take c.self.inside.ring.n c.self.inside.ring.weights (let h = c.self.inside.ring.few in
-        omega (arith, c.self.inside.ring.many))
-
-    some : 0 < length (take c.self.inside.ring.n c.self.inside.ring.weights)
-    some = let h = c.self.inside.ring.some in omega (arith, long)
-
-    few : length (take c.self.inside.ring.n c.self.inside.ring.weights) ≤ 8
-    few = let h = c.self.inside.ring.few in omega (arith, long)
-
-    positive : ArePositive (take c.self.inside.ring.n c.self.inside.ring.weights)
-    positive = positive_take c.self.inside.ring.n c.self.inside.ring.weights c.self.inside.ring.positive
-
-    a_part : IsPartOf c.self.inside.ring c.args.a.now
-    a_part = subst (λ s. IsPartOf s.ring c.args.a.now) (sym c.self.view_is) c.requires.a_part
-
-    b_part : IsPartOf c.self.inside.ring c.args.b.now
-    b_part = subst (λ s. IsPartOf s.ring c.args.b.now) (sym c.self.view_is) c.requires.b_part
-
-    sum : c.args.a.now.degree + c.args.b.now.degree ≡ c.self.inside.degree
-    sum = c.requires.degrees ∙ sym (ap (λ s. s.degree) c.self.view_is)
-
-    sizes : take c.n-n.result c.ready_cells.new.sizes ≡
-        multipliers c.self.inside.degree (take c.self.inside.ring.n c.self.inside.ring.weights)
-    sizes = (λ i. take ((c.n-n.ensures.variables ∙ sym long) i) c.ready_cells.new.sizes) ∙
-        subst (λ l. take (length l) c.ready_cells.new.sizes ≡ multipliers c.self.inside.degree l) at_ws
-        c.in_ok-ready_cells.ensures.sizes
-
-    small : size c.self.inside.degree (take c.self.inside.ring.n c.self.inside.ring.weights) ≤ 2 ^ 24
-    small = subst (λ l. size c.self.inside.degree l ≤ 2 ^ 24) at_ws c.in_ok-ready_cells.ensures.few
-
-    cells_long : length c.ready_cells.new.cells.items ≡
-        size c.self.inside.degree (take c.self.inside.ring.n c.self.inside.ring.weights)
-    cells_long = subst (λ l. length c.ready_cells.new.cells.items ≡ size c.self.inside.degree l) at_ws
-        c.in_ok-ready_cells.ensures.length
+    terms_below _ _ c.self.view_is c.n-n.result c.weights-weights.result c.ready_cells.new.sizes
+    c.ready_cells.new.cells.items c.n-n.ensures.variables c.weights-weights.ensures c.in_ok-ready_cells.ensures.length
+    c.in_ok-ready_cells.ensures.few c.in_ok-ready_cells.ensures.sizes c.args.a.now c.terms-2.result.now
+    c.terms-2.ensures.entries c.requires.a_part _ c.modulus-modulus.ensures
 
 pub add_rows-requires-clause-row_below : goal.add_rows-requires-clause-row_below
 add_rows-requires-clause-row_below c =
-    row_below c.self.inside.ring.modulus.value (take c.self.inside.ring.n c.self.inside.ring.weights) some few
-    positive c.args.b.now.degree c.terms.result.now (entries c.args.b.now.map) c.terms.ensures.entries b_part
-    (take c.n-n.result c.ready_cells.new.sizes) c.deref.result.now row (let h = c.self.inside.ring.modulus.high in h)
-  where
-    at_ws : take c.n-n.result c.weights-weights.result ≡ take c.self.inside.ring.n c.self.inside.ring.weights
-    at_ws = λ i. take (c.n-n.ensures.variables i) (c.weights-weights.ensures i)
-
-    long : length (take c.self.inside.ring.n c.self.inside.ring.weights) ≡ c.self.inside.ring.n
-    long = long_take c.self.inside.ring.n c.self.inside.ring.weights (let h = c.self.inside.ring.few in
-        omega (arith, c.self.inside.ring.many))
-
-    some : 0 < length (take c.self.inside.ring.n c.self.inside.ring.weights)
-    some = let h = c.self.inside.ring.some in omega (arith, long)
-
-    few : length (take c.self.inside.ring.n c.self.inside.ring.weights) ≤ 8
-    few = let h = c.self.inside.ring.few in omega (arith, long)
-
-    positive : ArePositive (take c.self.inside.ring.n c.self.inside.ring.weights)
-    positive = positive_take c.self.inside.ring.n c.self.inside.ring.weights c.self.inside.ring.positive
-
-    a_part : IsPartOf c.self.inside.ring c.args.a.now
-    a_part = subst (λ s. IsPartOf s.ring c.args.a.now) (sym c.self.view_is) c.requires.a_part
-
-    b_part : IsPartOf c.self.inside.ring c.args.b.now
-    b_part = subst (λ s. IsPartOf s.ring c.args.b.now) (sym c.self.view_is) c.requires.b_part
-
-    sum : c.args.a.now.degree + c.args.b.now.degree ≡ c.self.inside.degree
-    sum = c.requires.degrees ∙ sym (ap (λ s. s.degree) c.self.view_is)
-
-    sizes : take c.n-n.result c.ready_cells.new.sizes ≡
-        multipliers c.self.inside.degree (take c.self.inside.ring.n c.self.inside.ring.weights)
-    sizes = (λ i. take ((c.n-n.ensures.variables ∙ sym long) i) c.ready_cells.new.sizes) ∙
-        subst (λ l. take (length l) c.ready_cells.new.sizes ≡ multipliers c.self.inside.degree l) at_ws
-        c.in_ok-ready_cells.ensures.sizes
-
-    small : size c.self.inside.degree (take c.self.inside.ring.n c.self.inside.ring.weights) ≤ 2 ^ 24
-    small = subst (λ l. size c.self.inside.degree l ≤ 2 ^ 24) at_ws c.in_ok-ready_cells.ensures.few
-
-    cells_long : length c.ready_cells.new.cells.items ≡
-        size c.self.inside.degree (take c.self.inside.ring.n c.self.inside.ring.weights)
-    cells_long = subst (λ l. length c.ready_cells.new.cells.items ≡ size c.self.inside.degree l) at_ws
-        c.in_ok-ready_cells.ensures.length
-
-    row : c.deref.result.now ≡ map (placed_term (take c.n-n.result c.ready_cells.new.sizes)) c.terms.result.now
-    row = c.deref.ensures.value ∙ c.in_ok-place_terms.ensures
+    row_small _ _ c.self.view_is c.n-n.result c.weights-weights.result c.ready_cells.new.sizes
+    c.ready_cells.new.cells.items c.n-n.ensures.variables c.weights-weights.ensures c.in_ok-ready_cells.ensures.length
+    c.in_ok-ready_cells.ensures.few c.in_ok-ready_cells.ensures.sizes c.args.b.now c.terms.result.now
+    c.terms.ensures.entries c.requires.b_part c.deref.result.now
+    (c.deref.ensures.value ∙ c.in_ok-place_terms.ensures)
 
 pub add_rows-requires-clause-inside : goal.add_rows-requires-clause-inside
 add_rows-requires-clause-inside c =
-    places_inside c.self.inside.ring.modulus.value (take c.self.inside.ring.n c.self.inside.ring.weights) some few
-    positive c.args.b.now.degree c.terms.result.now (entries c.args.b.now.map) c.terms.ensures.entries b_part
-    c.self.inside.degree c.args.a.now.degree (length c.deref_mut.result.now)
-    (take c.n-n.result c.ready_cells.new.sizes) c.deref.result.now c.terms-2.result.now (entries c.args.a.now.map)
-    sum sizes row c.terms-2.ensures.entries a_part (ap length c.deref_mut.ensures.value ∙ cells_long)
-  where
-    at_ws : take c.n-n.result c.weights-weights.result ≡ take c.self.inside.ring.n c.self.inside.ring.weights
-    at_ws = λ i. take (c.n-n.ensures.variables i) (c.weights-weights.ensures i)
-
-    long : length (take c.self.inside.ring.n c.self.inside.ring.weights) ≡ c.self.inside.ring.n
-    long = long_take c.self.inside.ring.n c.self.inside.ring.weights (let h = c.self.inside.ring.few in
-        omega (arith, c.self.inside.ring.many))
-
-    some : 0 < length (take c.self.inside.ring.n c.self.inside.ring.weights)
-    some = let h = c.self.inside.ring.some in omega (arith, long)
-
-    few : length (take c.self.inside.ring.n c.self.inside.ring.weights) ≤ 8
-    few = let h = c.self.inside.ring.few in omega (arith, long)
-
-    positive : ArePositive (take c.self.inside.ring.n c.self.inside.ring.weights)
-    positive = positive_take c.self.inside.ring.n c.self.inside.ring.weights c.self.inside.ring.positive
-
-    a_part : IsPartOf c.self.inside.ring c.args.a.now
-    a_part = subst (λ s. IsPartOf s.ring c.args.a.now) (sym c.self.view_is) c.requires.a_part
-
-    b_part : IsPartOf c.self.inside.ring c.args.b.now
-    b_part = subst (λ s. IsPartOf s.ring c.args.b.now) (sym c.self.view_is) c.requires.b_part
-
-    sum : c.args.a.now.degree + c.args.b.now.degree ≡ c.self.inside.degree
-    sum = c.requires.degrees ∙ sym (ap (λ s. s.degree) c.self.view_is)
-
-    sizes : take c.n-n.result c.ready_cells.new.sizes ≡
-        multipliers c.self.inside.degree (take c.self.inside.ring.n c.self.inside.ring.weights)
-    sizes = (λ i. take ((c.n-n.ensures.variables ∙ sym long) i) c.ready_cells.new.sizes) ∙
-        subst (λ l. take (length l) c.ready_cells.new.sizes ≡ multipliers c.self.inside.degree l) at_ws
-        c.in_ok-ready_cells.ensures.sizes
-
-    small : size c.self.inside.degree (take c.self.inside.ring.n c.self.inside.ring.weights) ≤ 2 ^ 24
-    small = subst (λ l. size c.self.inside.degree l ≤ 2 ^ 24) at_ws c.in_ok-ready_cells.ensures.few
-
-    cells_long : length c.ready_cells.new.cells.items ≡
-        size c.self.inside.degree (take c.self.inside.ring.n c.self.inside.ring.weights)
-    cells_long = subst (λ l. length c.ready_cells.new.cells.items ≡ size c.self.inside.degree l) at_ws
-        c.in_ok-ready_cells.ensures.length
-
-    row : c.deref.result.now ≡ map (placed_term (take c.n-n.result c.ready_cells.new.sizes)) c.terms.result.now
-    row = c.deref.ensures.value ∙ c.in_ok-place_terms.ensures
+    rows_fit _ _ c.self.view_is c.n-n.result c.weights-weights.result c.ready_cells.new.sizes
+    c.ready_cells.new.cells.items c.n-n.ensures.variables c.weights-weights.ensures c.in_ok-ready_cells.ensures.length
+    c.in_ok-ready_cells.ensures.few c.in_ok-ready_cells.ensures.sizes c.args.b.now c.terms.result.now
+    c.terms.ensures.entries c.requires.b_part c.deref.result.now
+    (c.deref.ensures.value ∙ c.in_ok-place_terms.ensures) c.deref_mut.result.now c.deref_mut.ensures.value
+    c.args.a.now c.terms-2.result.now c.terms-2.ensures.entries c.requires.a_part c.requires.degrees
 
 pub returns-clause-ok : goal.returns-clause-ok
 returns-clause-ok c = ap
     (λ l. record {
       ring = c.self.inside.ring;
       degree = c.self.inside.degree;
-      map =
-          cells_map c.self.inside.ring.modulus.value (take c.self.inside.ring.n c.self.inside.ring.weights)
-          c.self.inside.degree l;
+      map = cells_map (modulus_of c.self.inside.ring) (weights_of c.self.inside.ring) c.self.inside.degree l;
     })
     (put_back c.add_rows.new.cells c.ready_cells.new.cells.items c.ready_cells.new.cells.len
     (omega (arith, ap length c.deref_mut.ensures.value, c.add_rows.auto.cells, c.ready_cells.new.cells.ok.0))
-    (sym c.ready_cells.new.cells.ok.0)) ∙ shown
-  where
-    at_ws : take c.n-n.result c.weights-weights.result ≡ take c.self.inside.ring.n c.self.inside.ring.weights
-    at_ws = λ i. take (c.n-n.ensures.variables i) (c.weights-weights.ensures i)
-
-    long : length (take c.self.inside.ring.n c.self.inside.ring.weights) ≡ c.self.inside.ring.n
-    long = long_take c.self.inside.ring.n c.self.inside.ring.weights (let h = c.self.inside.ring.few in
-        omega (arith, c.self.inside.ring.many))
-
-    some : 0 < length (take c.self.inside.ring.n c.self.inside.ring.weights)
-    some = let h = c.self.inside.ring.some in omega (arith, long)
-
-    few : length (take c.self.inside.ring.n c.self.inside.ring.weights) ≤ 8
-    few = let h = c.self.inside.ring.few in omega (arith, long)
-
-    positive : ArePositive (take c.self.inside.ring.n c.self.inside.ring.weights)
-    positive = positive_take c.self.inside.ring.n c.self.inside.ring.weights c.self.inside.ring.positive
-
-    a_part : IsPartOf c.self.inside.ring c.args.a.now
-    a_part = subst (λ s. IsPartOf s.ring c.args.a.now) (sym c.self.view_is) c.requires.a_part
-
-    b_part : IsPartOf c.self.inside.ring c.args.b.now
-    b_part = subst (λ s. IsPartOf s.ring c.args.b.now) (sym c.self.view_is) c.requires.b_part
-
-    sum : c.args.a.now.degree + c.args.b.now.degree ≡ c.self.inside.degree
-    sum = c.requires.degrees ∙ sym (ap (λ s. s.degree) c.self.view_is)
-
-    sizes : take c.n-n.result c.ready_cells.new.sizes ≡
-        multipliers c.self.inside.degree (take c.self.inside.ring.n c.self.inside.ring.weights)
-    sizes = (λ i. take ((c.n-n.ensures.variables ∙ sym long) i) c.ready_cells.new.sizes) ∙
-        subst (λ l. take (length l) c.ready_cells.new.sizes ≡ multipliers c.self.inside.degree l) at_ws
-        c.in_ok-ready_cells.ensures.sizes
-
-    small : size c.self.inside.degree (take c.self.inside.ring.n c.self.inside.ring.weights) ≤ 2 ^ 24
-    small = subst (λ l. size c.self.inside.degree l ≤ 2 ^ 24) at_ws c.in_ok-ready_cells.ensures.few
-
-    cells_long : length c.ready_cells.new.cells.items ≡
-        size c.self.inside.degree (take c.self.inside.ring.n c.self.inside.ring.weights)
-    cells_long = subst (λ l. length c.ready_cells.new.cells.items ≡ size c.self.inside.degree l) at_ws
-        c.in_ok-ready_cells.ensures.length
-
-    row : c.deref.result.now ≡ map (placed_term (take c.n-n.result c.ready_cells.new.sizes)) c.terms.result.now
-    row = c.deref.ensures.value ∙ c.in_ok-place_terms.ensures
-
-    totals : (f : ℕ → ℕ) → cells_total f 0 c.add_rows.new.cells % c.self.inside.ring.modulus.value ≡
-        (cells_total f 0 c.ready_cells.new.cells.items +
-        sign c.self.inside.ring.modulus.value c.args.minus * products_total f
-        (multipliers c.self.inside.degree (take c.self.inside.ring.n c.self.inside.ring.weights))
-        c.terms-2.result.now (map
-        (placed_term (multipliers c.self.inside.degree (take c.self.inside.ring.n c.self.inside.ring.weights)))
-        c.terms.result.now)) % c.self.inside.ring.modulus.value
-    totals f = ap (λ n. cells_total f 0 c.add_rows.new.cells % n) (sym c.modulus-modulus.ensures) ∙
-        c.add_rows.ensures.totals f
-        ∙ (λ i. (cells_total f 0 (c.deref_mut.ensures.value i) +
-        sign (c.modulus-modulus.ensures i) c.args.minus * products_total f (sizes i) c.terms-2.result.now
-        ((row ∙ ap (λ ms. map (placed_term ms) c.terms.result.now) sizes) i)) % (c.modulus-modulus.ensures i))
-
-    after : cells_map c.self.inside.ring.modulus.value (take c.self.inside.ring.n c.self.inside.ring.weights)
-        c.self.inside.degree c.add_rows.new.cells ≡ collected (key_compare 8) c.self.inside.ring.modulus.value
-        (entries (cells_map c.self.inside.ring.modulus.value (take c.self.inside.ring.n c.self.inside.ring.weights)
-        c.self.inside.degree c.ready_cells.new.cells.items) ++
-        multiples (sign c.self.inside.ring.modulus.value c.args.minus)
-        (products (add_keys 8) (entries c.args.a.now.map) (entries c.args.b.now.map)))
-    after = gained c.self.inside.ring.modulus.value c.args.a.now.degree c.args.b.now.degree c.self.inside.degree
-        (let h = c.self.inside.ring.modulus.low in h) (take c.self.inside.ring.n c.self.inside.ring.weights)
-        c.args.minus c.ready_cells.new.cells.items c.add_rows.new.cells c.terms-2.result.now c.terms.result.now
-        (entries c.args.a.now.map) (entries c.args.b.now.map) sum some few positive
-        (omega (arith, cells_long))
-        (omega (arith, cells_long, ap length c.deref_mut.ensures.value, c.add_rows.auto.cells))
-        c.terms-2.ensures.entries c.terms.ensures.entries a_part b_part totals
-
-    unmoved : cells_map c.self.inside.ring.modulus.value (take c.self.inside.ring.n c.self.inside.ring.weights)
-        c.self.inside.degree c.ready_cells.new.cells.items ≡
-        cells_map c.self.inside.ring.modulus.value (take c.self.inside.ring.n c.self.inside.ring.weights)
-        c.self.inside.degree c.self.inside.cells.items
-    unmoved = ap from_entries
-        (subst (λ l. finished c.self.inside.ring.modulus.value (key_at c.self.inside.degree l) 0
-        c.ready_cells.new.cells.items ≡
-        finished c.self.inside.ring.modulus.value (key_at c.self.inside.degree l) 0 c.self.inside.cells.items)
-        at_ws (c.in_ok-ready_cells.ensures.same c.self.inside.ring.modulus.value))
-
-    whole : cells_map c.self.inside.ring.modulus.value (take c.self.inside.ring.n c.self.inside.ring.weights)
-        c.self.inside.degree c.add_rows.new.cells ≡ with_product c.args.self.now.ring.modulus.value c.args.minus
-        c.args.self.now.map c.args.a.now.map c.args.b.now.map
-    whole = after ∙ (λ i. with_product c.self.inside.ring.modulus.value c.args.minus (unmoved i) c.args.a.now.map
-        c.args.b.now.map) ∙ (λ i. with_product (c.self.view_is i).ring.modulus.value c.args.minus
-        (c.self.view_is i).map c.args.a.now.map c.args.b.now.map)
-
-    shown : ◌≡◌ {A = AccumulatorValue}
-        (record {
-          ring = c.self.inside.ring;
-          degree = c.self.inside.degree;
-          map =
-              cells_map c.self.inside.ring.modulus.value (take c.self.inside.ring.n c.self.inside.ring.weights)
-              c.self.inside.degree c.add_rows.new.cells;
-        })
-        (record {
-          ring = c.args.self.now.ring;
-          degree = c.args.self.now.degree;
-          map =
-              with_product c.args.self.now.ring.modulus.value c.args.minus c.args.self.now.map c.args.a.now.map
-              c.args.b.now.map;
-        })
-    shown = λ i. record {
-      ring = (c.self.view_is i).ring;
-      degree = (c.self.view_is i).degree;
-      map = whole i;
-    }
+    (sym c.ready_cells.new.cells.ok.0)) ∙
+    after_rows _ _ c.self.view_is c.n-n.result c.weights-weights.result c.ready_cells.new.sizes
+    c.ready_cells.new.cells.items c.n-n.ensures.variables c.weights-weights.ensures c.in_ok-ready_cells.ensures.length
+    c.in_ok-ready_cells.ensures.few c.in_ok-ready_cells.ensures.sizes c.args.b.now c.terms.result.now
+    c.terms.ensures.entries c.requires.b_part c.deref.result.now
+    (c.deref.ensures.value ∙ c.in_ok-place_terms.ensures) c.deref_mut.result.now c.deref_mut.ensures.value
+    c.add_rows.new.cells (omega (arith, c.add_rows.auto.cells)) _ c.modulus-modulus.ensures
+    c.self.inside.cells.items refl c.in_ok-ready_cells.ensures.same
+    c.args.a.now c.terms-2.result.now c.args.minus c.terms-2.ensures.entries c.requires.a_part c.requires.degrees
+    c.add_rows.ensures.totals

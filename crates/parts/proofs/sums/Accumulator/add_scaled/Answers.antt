@@ -1,4 +1,4 @@
-use Rattle.std.proofs.Common.{◌≡◌, ◌∙◌, ◌++◌, ap, sym, subst, map, true}
+use Rattle.std.proofs.Common.{◌≡◌, ◌∙◌, ◌++◌, ap, sym, subst, map, false}
 use Rattle.std.specs.FinMap.{from_entries}
 use Rattle.ps_model.specs.Keys.{key_compare}
 use Rattle.ps_model.specs.Sums.{multiples}
@@ -24,8 +24,8 @@ returns-clause-ok c = λ i. record { ring = (c.self.view_is i).ring; degree = (c
     at_ring : c.ring-ring.result ≡ c.args.self.now.ring
     at_ring = c.ring-ring.ensures ∙ ap (λ s. s.ring) c.self.view_is
 
-    sparse : c.self.inside.is_sparse ≡ true
-    sparse = c.if-not-self.false
+    sparse : c.self.inside.is_dense ≡ false
+    sparse = c.if-self.false
 
     held : from_entries {R = key_compare 8} (map entry_of c.self.inside.terms.items) ≡ c.args.self.now.map
     held = ap (λ b. held_map b c.self.inside.dense.map c.self.inside.terms.items) (sym sparse) ∙
@@ -38,10 +38,10 @@ returns-clause-ok c = λ i. record { ring = (c.self.view_is i).ring; degree = (c
         (map entry_of l ++ multiples c.args.c (map entry_of c.terms.result.now)) c.in_ok-sum.sum.items)
         c.deref.ensures.value c.in_ok-sum.ensures
 
-    whole : held_map c.self.inside.is_sparse c.self.inside.dense.map c.in_ok-sum.sum.items ≡
+    whole : held_map c.self.inside.is_dense c.self.inside.dense.map c.in_ok-sum.sum.items ≡
         with_multiple (modulus_of c.args.self.now.ring) c.args.c c.args.self.now.map c.args.a.now.map
     whole = ap (λ b. held_map b c.self.inside.dense.map c.in_ok-sum.sum.items) sparse
         ∙ sparse_multiple c.ring-ring.result c.degree-degree.result c.self.inside.terms.items c.in_ok-sum.sum.items
         (terms_listed c.self.inside.dense.ring c.self.inside.dense.degree c.self.inside.terms.items
-        c.self.invariant.1) c.args.c c.terms.result.now c.args.a.now.map c.terms.ensures.entries sum_is
+        c.self.invariant.2) c.args.c c.terms.result.now c.args.a.now.map c.terms.ensures.entries sum_is
         ∙ (λ i. with_multiple (modulus_of (at_ring i)) c.args.c (held i) c.args.a.now.map)

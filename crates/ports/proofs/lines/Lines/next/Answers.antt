@@ -1,9 +1,9 @@
 -- A pull comes only where no whole line is there and the source goes on,
 -- so nothing is pulled otherwise.
-use Rattle.std.proofs.Common.{◌≡◌, ◌⊎◌, ◌∙◌, true, false, take, drop, ap, sym, subst, inl, inr, arith}
+use Rattle.std.proofs.Common.{◌≡◌, ◌⊎◌, ◌∙◌, true, false, take, drop, ap, sym, subst, inl, inr}
 use Rattle.ports.specs.Reading.{Reading, HasNoNewline, HoldsLine, TakesLine}
 use Rattle.ports.proofs.NextLemmas.{KeepsLine-joined, PullsMore-joined, HoldsLine-same, TakesLine-newline}
-use Rattle.ports.proofs.NextLemmas.{TakesLine-kept, no_line}
+use Rattle.ports.proofs.NextLemmas.{TakesLine-kept, no_line, no_newline_left, no_newline-same}
 use Rattle.ports.proofs.lines.Lines.next.Given.{Over}
 use Rattle.ports.proofs.lines.Lines.next.Goals as goal
 use Rattle.ports.proofs.lines.Lines.next.Goals.{After-fill}
@@ -53,6 +53,14 @@ pub returns-then-not-fill-clause-unmoved : goal.returns-then-not-fill-clause-unm
 returns-then-not-fill-clause-unmoved g c there =
     absurd (nothing_there g (goal.at.returns-then-not-fill-clause-unmoved g c).After-fill there)
 
+pub returns-then-not-fill-clause-short : goal.returns-then-not-fill-clause-short
+returns-then-not-fill-clause-short g c _ =
+    let free = c.is_full.ensures.room c.if-is_full.false in
+    let none = subst NoLineBelow (sym c.in_default.ensures.same) c.in_default.ensures.place in
+    no_newline-same c.find_newline.new.self c.fill.new.self
+    (rw c.if-not-fill.true at c.fill.ensures.stays) (c.fill.ensures.keeps.place)
+    (no_newline_left c.find_newline.new.self free none)
+
 pub loop-newline-preserved : goal.loop-newline-preserved
 loop-newline-preserved g c =
     let nothing = nothing_there g (goal.at.loop-newline-preserved g c).After-fill in
@@ -67,5 +75,5 @@ loop-newline-preserved g c =
       ended = λ ends. inr (c.fill.ensures.ended ends);
       stays = λ ended. absurd (nothing (inr ended));
       unmoved = λ there. absurd (nothing there);
-      faults = omega (arith, kept.faults, c.fill.ensures.faults);
+      no_fault = (rw c.if-not-fill.false at c.fill.ensures.no_fault) ∙ kept.no_fault;
     }

@@ -1,4 +1,4 @@
-use Rattle.std.proofs.Common.{◌≡◌, ◌⊎◌, ◌+◌, ◌-◌, ◌≤◌, length, true, cond}
+use Rattle.std.proofs.Common.{◌≡◌, ◌⊎◌, ◌+◌, ◌-◌, length, true, cond}
 use Rattle.ports.specs.Bytes.{AllTaken}
 use Rattle.ports.specs.Reading.{HoldsLine, KeepsLine, PullsMore}
 use Rattle.ports.proofs.lines.Lines.next.Given as goal
@@ -11,7 +11,7 @@ invariant-loop-newline g l = record {
   stays : l.initial.self.ended ≡ true → l.self.ended ≡ true;
   unmoved : HoldsLine l.initial.self ⊎ (l.initial.self.ended ≡ true) →
       (l.source ≡ l.initial.source) × (l.self.pulled ≡ l.initial.self.pulled);
-  faults : g.S.Source.faults l.initial.source ≤ g.S.Source.faults l.source;
+  no_fault : g.S.Source.faults l.source ≡ g.S.Source.faults l.initial.source;
 }
 
 abbrev pub decreases-loop-newline : goal.decreases-loop-newline

@@ -1,7 +1,12 @@
 -- proofs/plain/arithmetic/degree/Invariants.antt
-use Rattle.std.proofs.Common.{◌≡◌, ◌*◌, ◌≤◌, take}
-use Rattle.std.specs.Prelude.{sum}
+use Rattle.std.proofs.Common.{◌≡◌, ◌+◌, ◌-◌, ◌*◌, ◌≤◌}
+use Rattle.ps_model.specs.Plain.{key_of}
+use Rattle.ps_model.specs.PlainLists.{plain_degree}
+use Rattle.ps_model.proofs.PlainSums.{later_degree}
 use Rattle.ps_model.proofs.plain.arithmetic.degree.Given as goal
 
-abbrev pub invariant-loop-x : goal.invariant-loop-x
-invariant-loop-x l = record { so_far : l.degree ≡ sum (take l.x-index l.x-items); small : l.degree ≤ 65535 * l.x-index }
+abbrev pub invariant-loop-i : goal.invariant-loop-i
+invariant-loop-i l = record {
+  so_far : l.degree + later_degree l.weights l.term.powers l.i (8 - l.i) ≡ plain_degree l.weights (key_of l.term);
+  small : l.degree ≤ 4294836225 * l.i;
+}

@@ -8,5 +8,5 @@ use Rattle.ps_model.specs.PlainPolynomial.{plain_polynomial}
 use Rattle.ps_model.proofs.plain.factors.are_factors.Given as goal
 
 abbrev pub invariant-loop-i : goal.invariant-loop-i
-invariant-loop-i l = (k : ℕ) (r : Root) (f : Poly (series_ring l.m)) → k < l.i
-    → IsFactor l.d (get_or l.roots k r) (get_or (map (plain_polynomial l.m) l.fs) k f)
+invariant-loop-i l = (k : ℕ) (r : Root) (f : Poly (series_ring l.m l.weights)) → k < l.i
+    → IsFactor l.d (get_or l.roots k r) (get_or (map (plain_polynomial l.m l.weights) l.fs) k f)

@@ -4,4 +4,4 @@ use Rattle.ps_model.proofs.PlainChecks.{IsProductOf}
 use Rattle.ps_model.proofs.plain.factors.product_up_to.Given as goal
 
 abbrev pub invariant-loop-i : goal.invariant-loop-i
-invariant-loop-i l = IsProductOf l.m l.d (drop l.i l.fs) l.product
+invariant-loop-i l = IsProductOf l.m l.weights l.d (drop l.i l.fs) l.product

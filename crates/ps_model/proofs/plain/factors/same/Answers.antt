@@ -15,8 +15,8 @@ pub returns-clause-entries : goal.returns-clause-entries
 returns-clause-entries c = equal c
 
 pub returns-clause-polynomials : goal.returns-clause-polynomials
-returns-clause-polynomials c = λ m two hp hq. (
-  λ t. ap (plain_polynomial m) ((equal c).0 t),
-  λ e. (equal c).1 (same_maps m two c.args.a.now c.args.b.now c.terms.result.now c.terms-2.result.now
+returns-clause-polynomials c = λ m ws two hp hq. (
+  λ t. ap (plain_polynomial m ws) ((equal c).0 t),
+  λ e. (equal c).1 (same_maps m ws two c.args.a.now c.args.b.now c.terms.result.now c.terms-2.result.now
       c.terms.ensures.listed c.terms.ensures.in_order c.terms-2.ensures.listed c.terms-2.ensures.in_order hp hq e),
 )

@@ -1,12 +1,25 @@
-use Rattle.std.proofs.Common.{◌≤◌, ◌+◌, length, get_or, refl, arith, sym, subst, ◌∙◌}
+use Rattle.std.proofs.Common.{◌≤◌, ◌+◌, length, get_or, take, refl, arith, sym, subst, ◌∙◌}
 use Rattle.parts.specs.JobRows.{IsPermitted}
 use Rattle.stages.specs.States.{prepared_of}
 use Rattle.stages.proofs.LineTitles.{stages_of, of_stages, each_there}
 use Rattle.stages.proofs.Permits.{permitted_lower}
 use Rattle.stages.proofs.Raises.{raised_on, have_on, line_on, line_now, room_now}
-use Rattle.stages.proofs.Raises.{raised_kept, raised_within, raised_reach, raised_still, raised_lacks}
+use Rattle.stages.proofs.Raises.{raised_kept, raised_within, raised_reach, raised_still, have_now}
+use Rattle.stages.proofs.Raises.{not_raised, all_have}
 use Rattle.stages.proofs.Rounds.{on_err}
 use Rattle.stages.proofs.line.Line.raise.Goals as goal
+
+pub loop-r-init : goal.loop-r-init
+loop-r-init g c = record {
+  raised = not_raised _ _ _;
+  have = all_have _ _ _ _ (sym c.deref.ensures.value) c.least_length-r.ensures;
+  source = refl;
+  there = λ have. refl;
+  job = refl;
+}
+
+pub raise_all-requires-clause-have : goal.raise_all-requires-clause-have
+raise_all-requires-clause-have g c κs within = all_have _ _ _ _ c.deref_mut.ensures.value c.loop-r.invariant.have
 
 pub raise_all-requires-clause-line : goal.raise_all-requires-clause-line
 raise_all-requires-clause-line g c κs within = line_now _ _ _ c.deref_mut.ensures.value _ _
@@ -18,7 +31,7 @@ raise_all-requires-clause-room g c κs within = room_now _ _ _ c.deref_mut.ensur
     (omega arith) c.requires.room c.loop-r.invariant.raised.grow
 
 pub raise_all-requires-clause-permitted : goal.raise_all-requires-clause-permitted
-raise_all-requires-clause-permitted g c κs within = subst (λ job. IsPermitted job.n c.loop-r.r)
+raise_all-requires-clause-permitted g c κs within = subst (λ job. IsPermitted (take job.n job.weights) c.loop-r.r)
     (sym (c.loop-r.invariant.source ∙ c.requires.source))
     (permitted_lower _ _ c.args.to (omega arith) c.requires.permitted)
 
@@ -49,8 +62,8 @@ returns-in_err-raise_all-clause-ticks g c =
     c.loop-r.invariant.raised c.in_err-raise_all.ensures.grow c.in_err-raise_all.ensures.falling c.in_err-raise_all.ensures.ticks).ticks
 
 pub returns-in_err-raise_all-clause-there : goal.returns-in_err-raise_all-clause-there
-returns-in_err-raise_all-clause-there g c = λ have. absurd (raised_lacks _ (c.args.to + 1) c.loop-r.r _ _ _
-    c.deref_mut.ensures.value (omega arith) c.loop-r.invariant.raised.grow c.in_err-raise_all.ensures.err have)
+returns-in_err-raise_all-clause-there g c = λ have. absurd (c.in_err-raise_all.ensures.err (have_now _
+    (c.args.to + 1) c.loop-r.r _ _ _ c.deref_mut.ensures.value (omega arith) c.loop-r.invariant.raised.grow have))
 
 pub loop-r-preserved : goal.loop-r-preserved
 loop-r-preserved g c = record {
@@ -58,6 +71,8 @@ loop-r-preserved g c = record {
       c.loop-r.invariant.raised c.in_ok-raise_all.ensures.grow c.in_ok-raise_all.ensures.falling c.in_ok-raise_all.ensures.ticks;
   have = have_on _ c.loop-r.self.stages _ _ c.deref_mut.ensures.value _ c.in_ok-raise_all.ensures.grow c.in_ok-raise_all.ensures.ok;
   source = c.in_ok-raise_all.ensures.source ∙ c.loop-r.invariant.source;
+  there = λ have. c.in_ok-raise_all.ensures.there (have_now _ (c.args.to + 1) c.loop-r.r _ _ _
+      c.deref_mut.ensures.value (omega arith) c.loop-r.invariant.raised.grow have) ∙ c.loop-r.invariant.there have;
   job = c.loop-r.invariant.job;
 }
 
@@ -70,4 +85,4 @@ returns-clause-ok g c = raised_reach (c.args.to + 1) _ _ c.loop-r.invariant.rais
 pub returns-clause-there : goal.returns-clause-there
 returns-clause-there g c = λ have.
     let still = raised_still (c.args.to + 1) _ _ _ _ c.loop-r.invariant.raised have in
-    (refl, still.0, still.1)
+    (refl, still.0, c.loop-r.invariant.there have, still.1)

@@ -1,0 +1,4 @@
+pub mod NameLemmas
+pub mod Stopped
+pub mod ReadAnswers
+pub mod AsNames

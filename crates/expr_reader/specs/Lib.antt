@@ -1,0 +1,4 @@
+pub mod NameFaults
+pub mod NameLists
+pub mod ReadErrors
+pub mod Reading

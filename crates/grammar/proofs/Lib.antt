@@ -1,0 +1,12 @@
+pub mod Complete
+pub mod Sound
+pub mod Prefixes
+pub mod Run
+pub mod Lists
+pub mod ValidTrees
+pub mod NameLists
+pub mod Lexed
+pub mod Whole
+pub mod Within
+pub mod Canonical
+pub mod ReadTrees

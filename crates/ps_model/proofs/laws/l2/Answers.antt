@@ -1,6 +1,0 @@
-use Rattle.ps_model.specs.SeriesRing.{ring}
-use Rattle.ps_model.proofs.Prepared.{exactly_one}
-use Rattle.ps_model.proofs.laws.l2.Goals as goal
-
-pub returns : goal.returns
-returns c = λ S k q D G ok. exactly_one (ring S) G k q D ok
