@@ -1,5 +1,7 @@
 -- Places in lists of names, and one more name.
-use Rattle.std.proofs.Common.{◌≡◌, ◌≢◌, ℕ, suc, ◌+◌, ◌↔◌, ◌||◌, Bool, true, false, cond, if◌then◌else◌, List, [], ◌∷◌, ◌++◌, length, length-append, map, slice_get, Option, Some, None, refl, sym, ap, subst, ◌∙◌, zero, unwrap_or, arith}
+use Rattle.std.proofs.Common.{◌≡◌, ◌≢◌, ℕ, suc, ◌+◌, ◌↔◌, ◌||◌, Bool, true, false, cond, if◌then◌else◌, List, [], ◌∷◌}
+use Rattle.std.proofs.Common.{◌++◌, length, length-append, map, slice_get, Option, Some, None, refl, sym, ap, subst}
+use Rattle.std.proofs.Common.{◌∙◌, zero, unwrap_or, arith}
 use Rattle.std.specs.List.{position_from, position, list_any, list_all, IsDistinct, AllByRecursion}
 use Rattle.std.specs.Option.{option_map}
 use Rattle.std.specs.Str.{bytes_eq, IsUtf8}
@@ -30,7 +32,8 @@ module _ (name : List ℕ) where
   differs : (n : List ℕ) (names : List (List ℕ)) (i : ℕ) → AllByRecursion (λ y. bytes_eq n y ≡ false) names
       → slice_get names i ≡ Some name → bytes_eq name n ≡ false
   differs n [] i all h = absurd (none-some name h)
-  differs n (x ∷ xs) zero all h = nat_list_eq_equiv.symm name n ∙ subst (λ y. bytes_eq n y ≡ false) (some_same x h) all.0
+  differs n (x ∷ xs) zero all h = nat_list_eq_equiv.symm name n
+      ∙ subst (λ y. bytes_eq n y ≡ false) (some_same x h) all.0
     where
       some_same : (x : List ℕ) → Some x ≡ Some name → x ≡ name
       some_same x e = ap (λ o. unwrap_or o []) e
@@ -66,7 +69,8 @@ module _ (name : List ℕ) where
       by : (b : Bool) → bytes_eq name n ≡ b
           → (position_from (bytes_eq name) (j + 1) ns ≡ None → list_any (bytes_eq name) ns ≡ false)
           → list_any (bytes_eq name) (n ∷ ns) ≡ false
-      by true e rest = absurd (none-some j (sym h ∙ ap (λ b. cond b (Some j) (position_from (bytes_eq name) (j + 1) ns)) e))
+      by true e rest = absurd (none-some j (sym h ∙ ap (λ b. cond b (Some j) (position_from (bytes_eq name)
+          (j + 1) ns)) e))
       by false e rest =
           ap (λ b. b || list_any (bytes_eq name) ns) e
           ∙ rest (sym (ap (λ b. cond b (Some j) (position_from (bytes_eq name) (j + 1) ns)) e) ∙ h)
@@ -88,7 +92,8 @@ module _ (name : List ℕ) where
 module _ {Z : Type 0} where
   -- a list of texts, looked through by their bytes
   from_bytes : (name : List ℕ) (texts : List (String Z)) (j : ℕ)
-      → position_from (λ t. bytes_eq name (string_bytes t)) j texts ≡ position_from (bytes_eq name) j (map string_bytes texts)
+      → position_from (λ t. bytes_eq name (string_bytes t)) j texts ≡ position_from (bytes_eq name) j
+      (map string_bytes texts)
   from_bytes name [] j = refl
   from_bytes name (t ∷ ts) j = ap (cond (bytes_eq name (string_bytes t)) (Some j)) (from_bytes name ts (j + 1))
 
@@ -127,4 +132,5 @@ module _ {Z : Type 0} where
       → map string_bytes (insert_key string_eq texts text) ≡ map string_bytes texts ++ string_bytes text ∷ []
   texts-insert_key text texts none =
       let new = any_bytes text texts ∙ absent (string_bytes text) (map string_bytes texts) none in
-      ap (λ b. map string_bytes (if b then texts else texts ++ text ∷ [])) new ∙ map-append string_bytes texts (text ∷ [])
+      ap (λ b. map string_bytes (if b then texts else texts ++ text ∷ [])) new
+      ∙ map-append string_bytes texts (text ∷ [])

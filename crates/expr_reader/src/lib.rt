@@ -3,15 +3,11 @@
 
 // names in order of mention, and why a name isn't added
 mod name_error;
-#[cfg(test)]
-mod name_tests;
 mod names;
 // tokens, reading by recursive descent, and the canonical spelling
 mod parsing;
 mod printing;
 mod read_error;
-#[cfg(test)]
-mod read_tests;
 mod reader;
 mod reading;
 mod scanning;

@@ -1,5 +1,6 @@
 //! Names of variables, in order of mention.
-ghost use Rattle.std.specs.Prelude.{◌≡◌, ℕ, ◌<◌, ◌≤◌, ◌↔◌, true, false, [], ◌∷◌, ◌++◌, length, map, string_bytes, slice_get, Some, None, IsErrOf, IfOk, OnOk, OnErr};
+ghost use Rattle.std.specs.Prelude.{◌≡◌, ℕ, ◌<◌, ◌≤◌, ◌↔◌, true, false, [], ◌∷◌, ◌++◌, length, map};
+ghost use Rattle.std.specs.Prelude.{string_bytes, slice_get, Some, None, IsErrOf, IfOk, OnOk, OnErr};
 ghost use Rattle.std.specs.List.{list_all};
 ghost use Rattle.ps_model.specs.Names.{is_name as is_name_of, is_name_byte as is_name_byte_of};
 ghost use Rattle.expr_reader.specs.NameLists.{AreVariables, AreNames-as_names, as_names, index_of};

@@ -32,7 +32,8 @@ impl<'t> Model for Reader<'t> {
       rest = behind r.names.now (token_of r.token) r.next r.text.now;
     } };
 
-    ghost invariant = { λ r. (r.next ≤ length r.text.now) × (r.place ≤ length r.text.now) × (length r.text.now ≤ 65536) };
+    ghost invariant = { λ r. (r.next ≤ length r.text.now) × (r.place ≤ length r.text.now)
+        × (length r.text.now ≤ 65536) };
 }
 
 impl<'t> Reader<'t> {

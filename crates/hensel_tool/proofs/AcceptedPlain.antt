@@ -134,7 +134,8 @@ accepted input s is valid =
     }
 
 -- the same of a job that is known to be the script's
-pub accepted_job : (s : Plain) (job : JobData) → IsOfForm s → IsValidJob (plain_job s) → job ≡ plain_job s → IsAccepted job
+pub accepted_job : (s : Plain) (job : JobData) → IsOfForm s → IsValidJob (plain_job s) → job ≡ plain_job s
+    → IsAccepted job
 accepted_job s job (input, is) valid same = subst IsAccepted (sym same) (accepted input s is valid)
 
 pub job_of_terms : (s : Plain) (job : JobData) → IsOfForm s → job ≡ plain_job s → IsJobOfTerms job s.terms
@@ -145,4 +146,5 @@ job_of_terms s job (input, is) same = let terms = plain_terms input s is in
       tree = refl;
       some = terms.some;
       filled = terms.filled;
+      lead = is.lead;
     })

@@ -80,10 +80,12 @@ cell_in ring r c one same low = subst (All (IsEntryOf (modulus_of ring) (weights
         (subst (λ ws. IsKeyOf ws r (power_key r)) (sym (one_weight ring one same)) (key_is r), low) (All-nil _)
 
 -- the parts of a row of cells
-pub cells_in : (ring : Ring) (K r : ℕ) (cells : List ℕ) → ring.n ≡ 1 → eight_weights ring ≡ replicate 8 1 → length cells ≡ suc K
+pub cells_in : (ring : Ring) (K r : ℕ) (cells : List ℕ) → ring.n ≡ 1 → eight_weights ring ≡ replicate 8 1
+    → length cells ≡ suc K
     → All (λ c. c < modulus_of ring) cells → IsRowOfParts ring K r (map (cell_part r) cells)
 cells_in ring K r cells one same size low = record {
   places = length-map cells (cell_part r) ∙ size;
   degrees = All-map (λ (p : PartValue). p.degree ≡ r) (cell_part r) cells (λ i d lt. refl);
-  parts = All-map (IsPartOf ring) (cell_part r) cells (λ i d lt. cell_in ring r (get_or cells i d) one same (low i d lt));
+  parts = All-map (IsPartOf ring) (cell_part r) cells (λ i d lt. cell_in ring r (get_or cells i d) one same
+      (low i d lt));
 }

@@ -1,13 +1,10 @@
 -- The first fault of a plain script's job, from what was computed.
-use Rattle.std.proofs.Common.{◌≡◌, ◌≢◌, ℕ, Bool, true, false, List, map, Option, None, Some, sym, ◌∙◌, ap, subst}
-use Rattle.std.specs.Prelude.{IsTrue, ◌↔◌}
+use Rattle.std.proofs.Common.{◌≡◌, ◌≢◌, ℕ, List, map, Option, None, Some, sym, ◌∙◌, ap, subst}
 use Rattle.ps_model.specs.declared.job.Root.{Root}
 use Rattle.ps_model.specs.Factors.{total_times}
 use Rattle.ps_model.specs.Tree.{formal_degree}
-use Rattle.ps_model.specs.Value.{HasLead}
-use Rattle.ps_model.specs.Job.{AreAtOrigin}
-use Rattle.ps_model.specs.Job.{job_ring, told_count, NotMonic, DegreeMismatch, NotApart, RootsMismatch}
-use Rattle.ps_model.specs.Job.{IsFault, IsFirstFault, IsValidJob}
+use Rattle.ps_model.specs.Input.{told_count}
+use Rattle.ps_model.specs.Job.{DegreeMismatch, NotApart, RootsMismatch, AreAtOrigin, IsFault, IsFirstFault, IsValidJob}
 use Rattle.hensel_tool.specs.declared.script.PlainTerm.{PlainTerm}
 use Rattle.hensel_tool.specs.declared.script.PlainRoot.{PlainRoot}
 use Rattle.hensel_tool.specs.declared.origin.Difference.{Difference}
@@ -16,28 +13,13 @@ use Rattle.hensel_tool.specs.Plain.{Plain, plain_job, plain_tree, root_of}
 use Rattle.hensel_tool.specs.Form.{IsOfForm}
 use Rattle.hensel_tool.specs.Apart.{IsNearPair}
 use Rattle.hensel_tool.specs.Origin.{input_at, IsFirstDifference}
+use Rattle.hensel_tool.proofs.PlainMeaning.{AreTerms}
 use Rattle.hensel_tool.proofs.PlainOrigin.{plain_terms, at_origin, agree_at, at_least}
-use Rattle.hensel_tool.proofs.PlainFirstFaults.{not_monic, told_same, mismatch, not_apart, roots_differ, all_right}
-use Rattle.hensel_tool.specs.Plain.{plain_ring}
-
-not_both : false ≡ true → ⊥
-not_both e = absurd (cc)
+use Rattle.hensel_tool.proofs.PlainFirstFaults.{told_same, mismatch, not_apart, roots_differ, all_right}
 
 module _ (s : Plain) (form : IsOfForm s) (n : ℕ) (same : n ≡ s.modulus) where
-  abbrev lead_is_one : Type 0
-  lead_is_one = HasLead (job_ring (plain_job s)) (plain_tree s.terms) 1
-
-  -- what the test of the leading number tells
-  pub found_not_monic : (ts : List PlainTerm) (b : Bool) → ts ≡ s.terms → b ≡ false
-      → (IsTrue b ↔ HasLead (plain_ring n) (plain_tree ts) 1) → IsFirstFault (plain_job s) NotMonic
-  found_not_monic ts b is other tells = not_monic s form.1.small (λ lead. not_both (sym other
-      ∙ tells.1 (subst (λ k. HasLead (plain_ring k) (plain_tree ts) 1) (sym same)
-      (subst (λ us. HasLead (plain_ring s.modulus) (plain_tree us) 1) (sym is) lead))))
-
-  pub found_monic : (ts : List PlainTerm) (b : Bool) → ts ≡ s.terms → b ≡ true
-      → (IsTrue b ↔ HasLead (plain_ring n) (plain_tree ts) 1) → lead_is_one
-  found_monic ts b is holds tells = subst (λ k. HasLead (plain_ring k) (plain_tree s.terms) 1) same
-      (subst (λ us. HasLead (plain_ring n) (plain_tree us) 1) is (tells.0 holds))
+  terms_are : AreTerms s.terms
+  terms_are = plain_terms form.0 s form.1
 
   -- the roots as residues are those of the job
   pub the_roots : (given : List PlainRoot) (rs : List Root) → given ≡ s.roots → rs ≡ map (root_of n) given
@@ -53,15 +35,15 @@ module _ (s : Plain) (form : IsOfForm s) (n : ℕ) (same : n ≡ s.modulus) wher
     total_is = total ∙ ap (λ us. told_count (total_times us)) are
 
     -- the degree and the total that were computed
-    pub found_mismatch : lead_is_one → d ≢ t → IsFirstFault (plain_job s) (DegreeMismatch d t)
-    found_mismatch lead other = subst (λ k. IsFirstFault (plain_job s) (DegreeMismatch k t)) (sym degree_is)
-        (mismatch s form.1.small lead t total_is (λ e. other (degree_is ∙ e)))
+    pub found_mismatch : d ≢ t → IsFirstFault (plain_job s) (DegreeMismatch d t)
+    found_mismatch other = subst (λ k. IsFirstFault (plain_job s) (DegreeMismatch k t)) (sym degree_is)
+        (mismatch s form.1.small terms_are form.1.lead t total_is (λ e. other (degree_is ∙ e)))
 
     pub found_same : d ≡ t → formal_degree (plain_tree s.terms) ≡ total_times (plain_job s).roots
     found_same e = told_same s form.1.small t total_is (sym degree_is ∙ e)
 
-  module _ (lead : lead_is_one) (degree : formal_degree (plain_tree s.terms) ≡ total_times (plain_job s).roots)
-      (rs : List Root) (are : rs ≡ (plain_job s).roots) where
+  module _ (degree : formal_degree (plain_tree s.terms) ≡ total_times (plain_job s).roots) (rs : List Root)
+      (are : rs ≡ (plain_job s).roots) where
     -- the search for a pair that is too near
     of_job : (o : Option NearPair) → IsNearPair n rs o → IsNearPair s.modulus (plain_job s).roots o
     of_job o h = subst (λ k. IsNearPair k (plain_job s).roots o) same (subst (λ us. IsNearPair n us o) are h)
@@ -69,7 +51,7 @@ module _ (s : Plain) (form : IsOfForm s) (n : ℕ) (same : n ≡ s.modulus) wher
     pub found_near : (pair : NearPair) → IsNearPair n rs (Some pair)
         → IsFirstFault (plain_job s) (NotApart pair.first pair.second pair.difference pair.gcd)
     found_near pair h = let found = of_job (Some pair) h in
-        not_apart s form.1.small lead degree pair.first pair.second pair.difference pair.gcd
+        not_apart s form.1.small terms_are form.1.lead degree pair.first pair.second pair.difference pair.gcd
         (found.near, found.divisor, found.least)
 
     pub found_apart : IsNearPair n rs None → (i j d g : ℕ) → IsFault (plain_job s) (NotApart i j d g) → ⊥
@@ -85,15 +67,16 @@ module _ (s : Plain) (form : IsOfForm s) (n : ℕ) (same : n ≡ s.modulus) wher
 
       pub found_none : IsFirstDifference n ts rs None → IsValidJob (plain_job s)
       found_none h = let agree = of_script None h in
-          all_right s form.1.small lead degree apart (λ p. agree_at s (plain_terms form.0 s form.1) p (agree p))
+          all_right s form.1.small terms_are form.1.lead degree apart
+          (λ p. agree_at s terms_are form.1.lead p (agree p))
 
       pub found_difference : (d : Difference) → IsFirstDifference n ts rs (Some d)
           → IsFirstFault (plain_job s) (RootsMismatch d.power d.input d.roots)
       found_difference d h =
           let found = of_script (Some d) h in
-          let terms = plain_terms form.0 s form.1 in
-          roots_differ s form.1.small lead degree apart d.power d.input d.roots
+          roots_differ s form.1.small terms_are form.1.lead degree apart d.power d.input d.roots
           (subst (λ k. AreAtOrigin (plain_job s) d.power k d.roots) (sym found.input)
           (subst (λ k. AreAtOrigin (plain_job s) d.power (input_at s.modulus s.terms d.power) k) (sym found.roots_is)
-          (at_origin s terms d.power)))
-          found.differ (λ i differ. at_least i d.power (λ lt. agree_at s terms i (found.first i lt) differ))
+          (at_origin s terms_are form.1.lead d.power)))
+          found.differ (λ i differ. at_least i d.power (λ lt. agree_at s terms_are form.1.lead i
+          (found.first i lt) differ))

@@ -1,5 +1,6 @@
 -- A row of cells' parts is a row of the job's polynomial.
-use Rattle.std.proofs.Common.{◌≡◌, ℕ, suc, ◌+◌, ◌-◌, ◌*◌, ◌%◌, ◌<◌, ◌≤◌, max, min, inl, inr, List, length, get_or, map, replicate}
+use Rattle.std.proofs.Common.{◌≡◌, ℕ, suc, ◌+◌, ◌-◌, ◌*◌, ◌%◌, ◌<◌, ◌≤◌, max, min, inl, inr, List, length, get_or, map}
+use Rattle.std.proofs.Common.{replicate}
 use Rattle.std.proofs.Common.{take, drop, length-drop, sym, ◌∙◌, ap, subst, arith}
 use Rattle.std.specs.List.{All}
 use Rattle.std.proofs.Math.Nat.{mod-lt}
@@ -13,7 +14,8 @@ use Rattle.ps_model.specs.SeriesRing.{Poly, ring as ring_of}
 use Rattle.ps_model.specs.Slices.{slice_at}
 use Rattle.ps_model.specs.Tree.{formal_degree}
 use Rattle.ps_model.specs.Truncation.{truncated}
-use Rattle.ps_model.specs.Value.{IsValue}
+use Rattle.ps_model.specs.Lead.{IsMonicInput}
+use Rattle.ps_model.specs.Value.{HasLead}
 use Rattle.parts.specs.declared.rings.Ring.{Ring}
 use Rattle.parts.specs.JobRows.{IsInputRow, IsRingOf}
 use Rattle.parts.specs.PartValue.{PartValue}
@@ -23,11 +25,12 @@ use Rattle.parts.specs.Series.{maps_modulo, polynomial_in, polynomial_modulo, ro
 use Rattle.parts.proofs.Polynomials.{part_of-row}
 use Rattle.parts.proofs.RowSlices.{part_slice}
 use Rattle.hensel_tool.specs.declared.script.PlainTerm.{PlainTerm}
-use Rattle.hensel_tool.specs.Plain.{plain_ring}
+use Rattle.hensel_tool.specs.Plain.{plain_ring, plain_tree}
 use Rattle.hensel_tool.specs.PlainValue.{plain_polynomial}
 use Rattle.hensel_tool.specs.Coefficients.{cell_part, coefficient_sum, power_key, IsJobOfTerms, IsTable, IsTableOf}
 use Rattle.hensel_tool.proofs.CellParts.{of_cell, cell_in, cells_in}
-use Rattle.hensel_tool.proofs.PlainMeaning.{plain_only_value}
+use Rattle.hensel_tool.proofs.PlainInputs.{input_value}
+use Rattle.hensel_tool.proofs.PlainMeaning.{AreTerms, plain_only_value}
 use Rattle.hensel_tool.proofs.Tables.{place_within}
 use Rattle.hensel_tool.proofs.TermKeys.{terms_slice}
 
@@ -51,7 +54,8 @@ part_at_place : (r j : ℕ) (cells : List ℕ) → j < length cells
     → part_in (map (cell_part r) cells) j ≡ cell_part r (get_or cells j 0)
 part_at_place r j cells lt = get_or-map (cell_part r) cells j 0 nothing lt
 
-module _ (ring : Ring) (one : ring.n ≡ 1) (same : eight_weights ring ≡ replicate 8 1) (ts : List PlainTerm) (r : ℕ) where
+module _ (ring : Ring) (one : ring.n ≡ 1) (same : eight_weights ring ≡ replicate 8 1) (ts : List PlainTerm)
+    (r : ℕ) where
   -- a cell's part is the slice of the terms
   cell_slice : (j c : ℕ) → c ≡ coefficient_sum (modulus_of ring) ts r j % modulus_of ring
       → polynomial_in ring (cell_part r c).map
@@ -111,14 +115,22 @@ cells_row job ring ts K r cells of_ring of_terms degree are = record {
       (of_other.2 ∙ of_terms.weights) (are.size ∙ ap suc (sym degree))
       (subst (λ m. All (λ c. c < m) cells) same
       (cells_low (modulus_of ring) ts r K cells (let two = ring.modulus.low in omega arith) are));
-  slices = subst (λ (n : ℕ × List ℕ). (v : Poly (series_ring n.0 n.1)) → IsValue (series_ring n.0 n.1) r job.expr v
+  slices = subst (λ (n : ℕ × List ℕ). (v : Poly (series_ring n.0 n.1)) → IsMonicInput (series_ring n.0 n.1) r job.expr v
       → IsRowOf (formal_degree job.expr) r v (maps_modulo n.0 n.1 (map (cell_part r) cells)))
       (λ i. (of_ring.0 i, of_ring.2 i))
-      (λ v value. subst (λ k. IsRowOf k r v (row_maps ring (map (cell_part r) cells))) (sym degree)
+      (λ v input. subst (λ k. IsRowOf k r v (row_maps ring (map (cell_part r) cells))) (sym degree)
       (slices_are ring (of_ring.1 ∙ of_terms.variables) (of_ring.2 ∙ of_terms.weights) ts r K cells are v
-      (plain_only_value (series ring) r ts (record { some = of_terms.some; filled = of_terms.filled }) v
-      (subst (λ e. IsValue (series ring) r e v) of_terms.tree value))));
+      (plain_only_value (series ring) r ts terms v (input_value (series ring) ts terms lead r v
+      (subst (λ e. IsMonicInput (series ring) r e v) of_terms.tree input)))));
 }
+  where
+    terms : AreTerms ts
+    terms = record { some = of_terms.some; filled = of_terms.filled }
+
+    -- the leading number, over the job's ring
+    lead : HasLead (series ring) (plain_tree ts) 1
+    lead = subst (λ (n : ℕ × List ℕ). HasLead (series_ring n.0 n.1) (plain_tree ts) 1)
+        (λ i. (sym of_ring.0 i, sym (of_ring.2 ∙ of_terms.weights) i)) of_terms.lead
 
 -- the cells of one degree, from the table; above its last one there is nothing, as there
 table_row : (m : ℕ) (ts : List PlainTerm) (D K r s k : ℕ) (cells : List ℕ) → IsTable m ts D K cells

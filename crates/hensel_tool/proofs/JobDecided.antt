@@ -1,4 +1,4 @@
--- Whether a plain job is small, and what its first fault is, or that it has none.
+-- Whether a plain sum is small and has the leading number 1, and what its job's first fault is, or that it has none.
 use Rattle.std.proofs.Common.{◌≡◌, ◌≢◌, ℕ, zero, suc, ◌%◌, ◌<◌, ◌≤◌, ◌⊎◌, inl, inr, List, [], ◌∷◌, refl, sym, ◌∙◌}
 use Rattle.std.proofs.Common.{subst, arith}
 use Rattle.std.specs.List.{All}
@@ -7,11 +7,10 @@ use Rattle.std.proofs.lemmas.Bool.Decides.{eqb_tells}
 use Rattle.std.proofs.lemmas.List.Elements.{All-nil, All-cons, All-head, All-tail}
 use Rattle.ps_model.specs.Factors.{total_times}
 use Rattle.ps_model.specs.Tree.{formal_degree, node_count}
-use Rattle.ps_model.specs.Value.{HasLead}
-use Rattle.ps_model.specs.Job.{job_ring, told_count, Fault, NotMonic, DegreeMismatch, NotApart}
-use Rattle.ps_model.specs.Job.{RootsMismatch, IsFault, IsFirstFault, IsValidJob}
+use Rattle.ps_model.specs.Input.{told_count}
+use Rattle.ps_model.specs.Job.{Fault, DegreeMismatch, NotApart, RootsMismatch, IsFault, IsFirstFault, IsValidJob}
 use Rattle.hensel_tool.specs.declared.script.PlainTerm.{PlainTerm}
-use Rattle.hensel_tool.specs.Plain.{Plain, IsSmall, plain_tree, plain_job, variable_power}
+use Rattle.hensel_tool.specs.Plain.{Plain, IsSmall, HasLeadOne, plain_tree, plain_job, plain_ring, variable_power}
 use Rattle.hensel_tool.specs.Measures.{greatest_main_power, variable_at, coefficient_at}
 use Rattle.hensel_tool.specs.Origin.{input_at, roots_at}
 use Rattle.hensel_tool.proofs.MeasuresLeads.{plain_known, known_plain}
@@ -19,13 +18,11 @@ use Rattle.hensel_tool.proofs.OriginValues.{input_above, roots_above}
 use Rattle.hensel_tool.proofs.OriginRows.{everywhere}
 use Rattle.hensel_tool.proofs.PlainMeaning.{AreTerms}
 use Rattle.hensel_tool.proofs.PlainOrigin.{low_powers, at_origin, agree_at, at_least}
-use Rattle.hensel_tool.proofs.PlainFirstFaults.{not_monic, mismatch, not_apart, roots_differ, all_right}
+use Rattle.hensel_tool.proofs.PlainFirstFaults.{mismatch, not_apart, roots_differ, all_right}
 use Rattle.hensel_tool.proofs.Units.{pairs_decided}
-use Rattle.hensel_tool.specs.Plain.{plain_ring}
 
 -- whether the leading number is 1
-lead_decided : (m : ℕ) (ts : List PlainTerm) → HasLead (plain_ring m) (plain_tree ts) 1
-    ⊎ (HasLead (plain_ring m) (plain_tree ts) 1 → ⊥)
+pub lead_decided : (m : ℕ) (ts : List PlainTerm) → HasLeadOne m ts ⊎ (HasLeadOne m ts → ⊥)
 lead_decided m ts =
     let d = greatest_main_power ts in
     let S = plain_ring m in
@@ -56,7 +53,8 @@ first_apart f g (suc n) = elim (first_apart f g n) [
 not_told : (d t : ℕ) → d ≤ 32 → d ≢ t → d ≢ told_count t
 not_told d t small other is = other (omega arith)
 
-module _ (s : Plain) (terms : AreTerms s.terms) (small : IsSmall s.terms) (two : 2 ≤ s.modulus) where
+module _ (s : Plain) (terms : AreTerms s.terms) (small : IsSmall s.terms) (lead : HasLeadOne s.modulus s.terms)
+    (two : 2 ≤ s.modulus) where
   -- above the degree both coefficients are 0
   above : formal_degree (plain_tree s.terms) ≡ total_times (plain_job s).roots → (p : ℕ) → 32 < p
       → input_at s.modulus s.terms p ≡ roots_at s.modulus (plain_job s).roots p
@@ -68,39 +66,35 @@ module _ (s : Plain) (terms : AreTerms s.terms) (small : IsSmall s.terms) (two :
 
   -- the fault of lowest order, or that there is none
   pub decided : ((f : Fault) × IsFirstFault (plain_job s) f) ⊎ IsValidJob (plain_job s)
-  decided = elim (lead_decided s.modulus s.terms) [
-    | inr other ↦ inl (NotMonic, not_monic s small other)
-    | inl lead ↦ elim (eqb_tells (formal_degree (plain_tree s.terms)) (total_times (plain_job s).roots)) [
-      | inr other ↦ inl (
-        DegreeMismatch (formal_degree (plain_tree s.terms)) (told_count (total_times (plain_job s).roots)),
-        mismatch s small lead (told_count (total_times (plain_job s).roots)) refl
-            (not_told _ _ small.degree other.1),
+  decided = elim (eqb_tells (formal_degree (plain_tree s.terms)) (total_times (plain_job s).roots)) [
+    | inr other ↦ inl (
+      DegreeMismatch (formal_degree (plain_tree s.terms)) (told_count (total_times (plain_job s).roots)),
+      mismatch s small terms lead (told_count (total_times (plain_job s).roots)) refl
+          (not_told _ _ small.degree other.1),
+    )
+    | inl same ↦ elim (pairs_decided s.modulus (plain_job s).roots) [
+      | inl near ↦ inl (
+        NotApart near.0.first near.0.second near.0.difference near.0.gcd,
+        not_apart s small terms lead same.1 near.0.first near.0.second near.0.difference near.0.gcd
+            (near.1.near, near.1.divisor, near.1.least),
       )
-      | inl same ↦ elim (pairs_decided s.modulus (plain_job s).roots) [
-        | inl near ↦ inl (
-          NotApart near.0.first near.0.second near.0.difference near.0.gcd,
-          not_apart s small lead same.1 near.0.first near.0.second near.0.difference near.0.gcd
-              (near.1.near, near.1.divisor, near.1.least),
-        )
-        | inr apart ↦ by_powers lead same.1 (λ i j d g fault. apart i j d fault.0)
-            (first_apart (input_at s.modulus s.terms) (roots_at s.modulus (plain_job s).roots) 33)
-      ]
+      | inr apart ↦ by_powers same.1 (λ i j d g fault. apart i j d fault.0)
+          (first_apart (input_at s.modulus s.terms) (roots_at s.modulus (plain_job s).roots) 33)
     ]
   ]
     where
-      by_powers : HasLead (job_ring (plain_job s)) (plain_tree s.terms) 1
-          → formal_degree (plain_tree s.terms) ≡ total_times (plain_job s).roots
+      by_powers : formal_degree (plain_tree s.terms) ≡ total_times (plain_job s).roots
           → ((i j d g : ℕ) → IsFault (plain_job s) (NotApart i j d g) → ⊥)
           → ((p : ℕ) × (input_at s.modulus s.terms p ≢ roots_at s.modulus (plain_job s).roots p)
           × ((i : ℕ) → i < p → input_at s.modulus s.terms i ≡ roots_at s.modulus (plain_job s).roots i))
           ⊎ ((i : ℕ) → i < 33 → input_at s.modulus s.terms i ≡ roots_at s.modulus (plain_job s).roots i)
           → ((f : Fault) × IsFirstFault (plain_job s) f) ⊎ IsValidJob (plain_job s)
-      by_powers lead same apart (inl found) = inl (
+      by_powers same apart (inl found) = inl (
         RootsMismatch found.0 (input_at s.modulus s.terms found.0) (roots_at s.modulus (plain_job s).roots found.0),
-        roots_differ s small lead same apart found.0 _ _ (at_origin s terms found.0) found.1
-            (λ i differ. at_least i found.0 (λ lt. agree_at s terms i (found.2 i lt) differ)),
+        roots_differ s small terms lead same apart found.0 _ _ (at_origin s terms lead found.0) found.1
+            (λ i differ. at_least i found.0 (λ lt. agree_at s terms lead i (found.2 i lt) differ)),
       )
-      by_powers lead same apart (inr agree) = inr (all_right s small lead same apart (λ p. agree_at s terms p
+      by_powers same apart (inr agree) = inr (all_right s small terms lead same apart (λ p. agree_at s terms lead p
           (everywhere (λ i. input_at s.modulus s.terms i ≡ roots_at s.modulus (plain_job s).roots i) 33 agree
           (λ i le. above same i (omega arith)) p)))
 

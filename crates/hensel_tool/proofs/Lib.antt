@@ -9,6 +9,7 @@ pub mod OriginValues
 pub mod PlainFirstFaults
 pub mod PlainLeads
 pub mod PlainMeaning
+pub mod PlainInputs
 pub mod ToldPieces
 pub mod Accepted
 pub mod AcceptedPlain

@@ -1,5 +1,6 @@
 -- How far a line is raised, and the steps that it takes.
-use Rattle.std.proofs.Common.{◌≡◌, ℕ, zero, suc, ◌+◌, ◌*◌, ◌<◌, ◌≤◌, List, [], ◌∷◌, length, get_or, take, replicate, refl, sym, ◌∙◌}
+use Rattle.std.proofs.Common.{◌≡◌, ℕ, zero, suc, ◌+◌, ◌*◌, ◌<◌, ◌≤◌, List, [], ◌∷◌, length, get_or, take, replicate}
+use Rattle.std.proofs.Common.{refl, sym, ◌∙◌}
 use Rattle.std.proofs.Common.{ap, subst, arith}
 use Rattle.std.specs.Prelude.{sum_by}
 use Rattle.std.proofs.lemmas.List.Sums.{sum_by-cons}
@@ -20,7 +21,8 @@ permitted_one job D one ones low = subst (λ ws. IsPermitted ws D) (λ i. take (
 module _ {T : Type 0} (f : T → ℕ) (n : ℕ) where
   sum_same : (xs : List T) → ((s : ℕ) (d : T) → s < length xs → f (get_or xs s d) ≡ n) → sum_by f xs ≡ length xs * n
   sum_same [] h = omega arith
-  sum_same (x ∷ xs) h = sum_by-cons f x xs ∙ (λ i. h 0 x (omega arith) i + sum_same xs (λ s d lt. h (suc s) d (omega arith)) i)
+  sum_same (x ∷ xs) h = sum_by-cons f x xs ∙ (λ i. h 0 x (omega arith) i + sum_same xs (λ s d lt. h (suc s) d
+      (omega arith)) i)
       ∙ one_more (length xs)
     where
       one_more : (k : ℕ) → n + k * n ≡ suc k * n
@@ -81,7 +83,8 @@ module _ (job : JobData) (ring : Ring) (capacities : List ℕ) (names : List (Li
     steps_done reach =
         let none = nothing in
         let all = sum_same prepared_of (D + 1) new (λ s d lt. each s d (let same = kept.count in omega arith)) in
-        sym (no_more tally' (sum_by prepared_of old) none) ∙ ticks ∙ ap (λ n. tally + n) (all ∙ (λ i. count i * one_less D i))
+        sym (no_more tally' (sum_by prepared_of old) none) ∙ ticks ∙ ap (λ n. tally + n) (all
+        ∙ (λ i. count i * one_less D i))
       where
         no_more : (a b : ℕ) → b ≡ 0 → a + b ≡ a
         no_more a b is = omega arith

@@ -53,7 +53,8 @@ fault_output input s f plain first = inr (inr (inl (record {
 })))
 
 -- each input has an output
-pub some_output : (input : List ℕ) → (text : List ℕ) × (status : ℕ) × (steps : ℕ) × IsOutput factor_words input text status steps
+pub some_output : (input : List ℕ) → (text : List ℕ) × (status : ℕ) × (steps : ℕ)
+    × IsOutput factor_words input text status steps
 some_output input = elim (some_reading input) [
   | inr other ↦ (not_built, 1, 0, refusal_output input other)
   | inl read ↦ of_script read.0 read.1 (some_answer input read.0 read.1)
@@ -83,7 +84,8 @@ status_once words input text text' status status' n n' (inr (inl a)) (inl b) = a
 status_once words input text text' status status' n n' (inr (inl a)) (inr (inl b)) = a.status_is ∙ sym b.status_is
 status_once words input text text' status status' n n' (inr (inl a)) (inr (inr (inl b))) =
     absurd (valid_not_faulty input a.script b.script b.fault a.plain b.plain a.valid b.first)
-status_once words input text text' status status' n n' (inr (inl a)) (inr (inr (inr b))) = absurd (b.other a.script a.plain)
+status_once words input text text' status status' n n' (inr (inl a)) (inr (inr (inr b))) =
+    absurd (b.other a.script a.plain)
 status_once words input text text' status status' n n' (inr (inr (inl a))) (inl b) = absurd (b.refused a.taken)
 status_once words input text text' status status' n n' (inr (inr (inl a))) (inr (inl b)) =
     absurd (valid_not_faulty input b.script a.script a.fault b.plain a.plain b.valid a.first)
@@ -92,7 +94,8 @@ status_once words input text text' status status' n n' (inr (inr (inl a))) (inr 
 status_once words input text text' status status' n n' (inr (inr (inl a))) (inr (inr (inr b))) =
     absurd (b.other a.script a.plain)
 status_once words input text text' status status' n n' (inr (inr (inr a))) (inl b) = absurd (b.refused a.taken)
-status_once words input text text' status status' n n' (inr (inr (inr a))) (inr (inl b)) = absurd (a.other b.script b.plain)
+status_once words input text text' status status' n n' (inr (inr (inr a))) (inr (inl b)) =
+    absurd (a.other b.script b.plain)
 status_once words input text text' status status' n n' (inr (inr (inr a))) (inr (inr (inl b))) =
     absurd (a.other b.script b.plain)
 status_once words input text text' status status' n n' (inr (inr (inr a))) (inr (inr (inr b))) =
@@ -104,8 +107,10 @@ pub status_refused : (words : List (List ℕ)) (input input' text text' : List �
     → IsOutput words input text status n → IsOutput words input' text' status' n' → status ≡ status'
 status_refused words input input' text text' status status' n n' other (inl a) (inl b) = a.status_is ∙ sym b.status_is
 status_refused words input input' text text' status status' n n' other (inl a) (inr (inl b)) = absurd (other b.taken)
-status_refused words input input' text text' status status' n n' other (inl a) (inr (inr (inl b))) = absurd (other b.taken)
-status_refused words input input' text text' status status' n n' other (inl a) (inr (inr (inr b))) = absurd (other b.taken)
+status_refused words input input' text text' status status' n n' other (inl a) (inr (inr (inl b))) =
+    absurd (other b.taken)
+status_refused words input input' text text' status status' n n' other (inl a) (inr (inr (inr b))) =
+    absurd (other b.taken)
 status_refused words input input' text text' status status' n n' other (inr (inl a)) b = absurd (other a.taken)
 status_refused words input input' text text' status status' n n' other (inr (inr (inl a))) b = absurd (other a.taken)
 status_refused words input input' text text' status status' n n' other (inr (inr (inr a))) b = absurd (other a.taken)
@@ -120,7 +125,8 @@ nothing_written None text = refl
 nothing_written (Some bytes) text = (0, ap (λ (l : List ℕ). Some l) (sym (append-nil bytes)))
 
 -- a whole text that was written, with its status and its steps
-pub outputs_done : (words : List (List ℕ)) (left w w' : Option (List ℕ)) (input text : List ℕ) (tally tally' n status r : ℕ)
+pub outputs_done : (words : List (List ℕ)) (left w w' : Option (List ℕ)) (input text : List ℕ)
+    (tally tally' n status r : ℕ)
     → IsLeft left input → IsOutput words input text status n → tally' ≡ tally + n
     → ((r ≡ 4 → ⊥) → (r ≡ status) × WritesAll w w' text) → r < 3 → Outputs words left w w' tally tally' r
 outputs_done words left w w' input text tally tally' n status r is_left output spends done low =
@@ -136,21 +142,23 @@ outputs_done words left w w' input text tally tally' n status r is_left output s
     }
 
 -- a text of which a part was written
-pub outputs_part : (words : List (List ℕ)) (left w w' : Option (List ℕ)) (input text : List ℕ) (tally tally' n status r : ℕ)
+pub outputs_part : (words : List (List ℕ)) (left w w' : Option (List ℕ)) (input text : List ℕ)
+    (tally tally' n status r : ℕ)
     → status < 3 → IsLeft left input → IsOutput words input text status n → tally' ≡ tally + n
     → ((r ≡ 4 → ⊥) → (r ≡ status) × WritesAll w w' text)
     → (r ≡ 4 → WritesPart w w' text) → (r ≡ 4) ⊎ (r ≡ 5) → OutputsPart words left w w' tally tally'
-outputs_part words left w w' input text tally tally' n status r low is_left output spends done failed (inl four) = record {
-  input = input;
-  is_left = is_left;
-  text = text;
-  status = status;
-  steps = n;
-  output = output;
-  writes = beginning_of_part w w' text (failed four);
-  more = omega arith;
-  at_most = omega arith;
-}
+outputs_part words left w w' input text tally tally' n status r low is_left output spends done failed (inl four) =
+    record {
+      input = input;
+      is_left = is_left;
+      text = text;
+      status = status;
+      steps = n;
+      output = output;
+      writes = beginning_of_part w w' text (failed four);
+      more = omega arith;
+      at_most = omega arith;
+    }
 outputs_part words left w w' input text tally tally' n status r low is_left output spends done failed (inr five) =
     absurd (let same = (done (λ four. absurd (omega arith))).0 in omega arith)
 
@@ -222,7 +230,8 @@ told_part words left w w' input tally tally' is_left o = record {
 }
 
 -- with a known input the status is that of its output
-pub status_is : (words : List (List ℕ)) (left w w' : Option (List ℕ)) (input text : List ℕ) (tally tally' n status r : ℕ)
+pub status_is : (words : List (List ℕ)) (left w w' : Option (List ℕ)) (input text : List ℕ)
+    (tally tally' n status r : ℕ)
     → IsKnown words left input → IsOutput words input text status n → Outputs words left w w' tally tally' r
     → r ≡ status
 status_is words None w w' input text tally tally' n status r other output o =

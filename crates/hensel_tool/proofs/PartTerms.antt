@@ -63,7 +63,8 @@ module _ (job : JobData) (i j r D : ℕ) (p : PartValue) (is : IsFactorPart job 
       ∙ ap (slice_at R r j) (get_or-truncated R r i fs) ∙ slice_at-truncated R r r j _ (omega arith)
 
 -- the texts of the terms of one degree
-at_modulus : (m : ℕ) (ws : List ℕ) (j r : ℕ) (names : List (List ℕ)) (f : Poly (series_ring m ws)) (map : FinMap (key_compare 8) ℕ)
+at_modulus : (m : ℕ) (ws : List ℕ) (j r : ℕ) (names : List (List ℕ)) (f : Poly (series_ring m ws)) (map : FinMap
+    (key_compare 8) ℕ)
     → polynomial_modulo m ws map ≡ slice r j f → AreResidues (max 2 m) (entries map)
     → texts_of names (terms_of_degree (series_ring m ws) f j r) ≡ texts_of names (entries map)
 unfolding series_ring polynomial_modulo

@@ -5,17 +5,19 @@ use Rattle.std.specs.List.{All}
 use Rattle.std.proofs.Math.Nat.{mod-lt}
 use Rattle.std.proofs.lemmas.List.Elements.{All-nil, All-cons}
 use Rattle.ps_model.specs.declared.job.Root.{Root}
+use Rattle.ps_model.specs.Factors.{root_powers}
 use Rattle.ps_model.specs.Keys.{y_key}
 use Rattle.ps_model.specs.Notation.{coefficient}
-use Rattle.ps_model.specs.SeriesRing.{ring}
+use Rattle.ps_model.specs.SeriesRing.{SeriesRing, ring, Poly}
 use Rattle.ps_model.specs.Job.{AreAtOrigin, DifferAt}
 use Rattle.hensel_tool.specs.declared.script.PlainTerm.{PlainTerm}
 use Rattle.hensel_tool.specs.declared.script.PlainRoot.{PlainRoot}
-use Rattle.hensel_tool.specs.Plain.{Plain, IsPlain, IsSmall, plain_job, root_of}
+use Rattle.hensel_tool.specs.Plain.{Plain, IsPlain, IsSmall, HasLeadOne, plain_job, root_of}
 use Rattle.hensel_tool.specs.PlainValue.{main_power}
 use Rattle.hensel_tool.specs.Measures.{greatest_main_power}
 use Rattle.hensel_tool.specs.Origin.{input_at, roots_at}
 use Rattle.hensel_tool.proofs.MeasuresTrees.{plain_degree}
+use Rattle.hensel_tool.proofs.PlainInputs.{times_lead}
 use Rattle.hensel_tool.proofs.PlainMeaning.{AreTerms, written_terms, plain_is_value, plain_only_value}
 use Rattle.hensel_tool.specs.Plain.{plain_ring}
 
@@ -50,17 +52,26 @@ roots_residues m (r ∷ rs) some =
 pub at_least : (n k : ℕ) → (n < k → ⊥) → k ≤ n
 at_least n k h = omega arith
 
-module _ (s : Plain) (terms : AreTerms s.terms) where
+module _ (s : Plain) (terms : AreTerms s.terms) (lead : HasLeadOne s.modulus s.terms) where
+  abbrev S : SeriesRing
+  S = plain_ring s.modulus
+
+  abbrev powers : Poly S
+  powers = root_powers {R = ring S} (plain_job s).roots
+
+  abbrev at_power : ℕ → Poly S → ℕ
+  at_power p q = coefficient {R = ring S} q (y_key S.variables p)
+
   -- the coefficients at the origin
   pub at_origin : (p : ℕ) → AreAtOrigin (plain_job s) p (input_at s.modulus s.terms p)
       (roots_at s.modulus (plain_job s).roots p)
   unfolding input_at roots_at
-  at_origin p = (_, plain_is_value (plain_ring s.modulus) 0 s.terms terms, refl, refl)
+  at_origin p = let is = plain_is_value S 0 s.terms terms in
+      (_, is, refl, sym (ap (at_power p) (times_lead S s.terms terms lead 0 _ powers is)))
 
   pub agree_at : (p : ℕ) → input_at s.modulus s.terms p ≡ roots_at s.modulus (plain_job s).roots p
       → DifferAt (plain_job s) p → ⊥
   unfolding input_at roots_at
   agree_at p same (input, roots, (v, is, at, at'), ne) = ne (at
-      ∙ ap (λ q. coefficient {R = ring (plain_ring s.modulus)} q (y_key (plain_ring s.modulus).variables p))
-      (plain_only_value (plain_ring s.modulus) 0 s.terms terms v is)
-      ∙ same ∙ sym at')
+      ∙ ap (at_power p) (plain_only_value S 0 s.terms terms v is)
+      ∙ same ∙ sym (at' ∙ ap (at_power p) (times_lead S s.terms terms lead 0 v powers is)))

@@ -14,7 +14,8 @@ use Rattle.hensel_tool.proofs.Cuts.{IsFree, IsFree-append, cut_same}
 use Rattle.hensel_tool.proofs.Texts.{bind_some, map_some, cut_none, differ}
 use Rattle.hensel_tool.proofs.Factors.{factor_is, factor_same, factor_free}
 use Rattle.hensel_tool.proofs.Pieces.{pieces_joined, pieces_are, pieces_read, texts_free, joined_more}
-use Rattle.hensel_tool.proofs.SignTexts.{minus_first, mark, spaced_mark, spaced_is, signed_is, signed_text, signed_nothing}
+use Rattle.hensel_tool.proofs.SignTexts.{minus_first, mark, spaced_mark, spaced_is, signed_is, signed_text}
+use Rattle.hensel_tool.proofs.SignTexts.{signed_nothing}
 use Rattle.hensel_tool.proofs.SignTexts.{signed_mark, sign_is, next_sign_same}
 use Rattle.hensel_tool.proofs.Sums.{sum_more, sum_last}
 

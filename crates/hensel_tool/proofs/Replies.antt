@@ -3,7 +3,7 @@ use Rattle.std.proofs.Common.{◌≡◌, ℕ, ◌+◌, ◌≤◌, Bool, true, fa
 use Rattle.ps_model.specs.Job.{IsValidJob}
 use Rattle.std.specs.Prelude.{IsTrue, ◌↔◌}
 use Rattle.hensel_tool.specs.declared.script.PlainTerm.{PlainTerm}
-use Rattle.hensel_tool.specs.Plain.{Plain, IsWritten, IsSmall, IsPlain, plain_job}
+use Rattle.hensel_tool.specs.Plain.{Plain, IsWritten, IsSmall, HasLeadOne, IsPlain, plain_job}
 use Rattle.hensel_tool.specs.Output.{factor_words, not_built, steps_of, IsOutput}
 use Rattle.hensel_tool.specs.Replies.{IsReply, StopsWithin}
 use Rattle.hensel_tool.proofs.Decided.{some_text}
@@ -19,11 +19,22 @@ not_built_output input text status other is one = subst (λ t. IsOutput factor_w
 not_both : false ≡ true → ⊥
 not_both e = absurd (cc)
 
--- a script whose polynomial isn't small isn't of the form
-pub not_small : (input : List ℕ) (s : Plain) (terms : List PlainTerm) (b : Bool) → IsWritten input s
-    → terms ≡ s.terms → b ≡ false → (IsTrue b ↔ IsSmall terms) → (t : Plain) → IsPlain input t → ⊥
-not_small input s terms b is same other tells t plain = not_both (sym other ∙ tells.1 (subst IsSmall (sym same)
-    (subst (λ (r : Plain). IsSmall r.terms) (only_one input t s plain.written is) plain.small)))
+-- what was read is of the form where the test of its terms holds
+pub plain_script : (input : List ℕ) (s : Plain) (m : ℕ) (terms : List PlainTerm) (b : Bool) → IsWritten input s
+    → m ≡ s.modulus → terms ≡ s.terms → b ≡ true → (IsTrue b ↔ (IsSmall terms × HasLeadOne m terms)) → IsPlain input s
+plain_script input s m terms b is modulus same holds tells =
+    let of_terms = subst (λ ts. IsSmall ts × HasLeadOne m ts) same (tells.0 holds) in
+    record { written = is; small = of_terms.0; lead = subst (λ k. HasLeadOne k s.terms) modulus of_terms.1 }
+
+-- and where it doesn't, the input isn't of the form
+pub not_plain : (input : List ℕ) (s : Plain) (m : ℕ) (terms : List PlainTerm) (b : Bool) → IsWritten input s
+    → m ≡ s.modulus → terms ≡ s.terms → b ≡ false → (IsTrue b ↔ (IsSmall terms × HasLeadOne m terms)) → (t : Plain)
+    → IsPlain input t → ⊥
+not_plain input s m terms b is modulus same other tells t plain = not_both (sym other
+    ∙ tells.1 (subst (λ k. IsSmall terms × HasLeadOne k terms) (sym modulus)
+    (subst (λ ts. IsSmall ts × HasLeadOne s.modulus ts) (sym same)
+    (subst (λ (r : Plain). IsSmall r.terms × HasLeadOne r.modulus r.terms) (only_one input t s plain.written is)
+    (plain.small, plain.lead)))))
 
 -- where memory runs out before any step
 pub stops_at_once : (input : List ℕ) (tally : ℕ) → StopsWithin input tally tally

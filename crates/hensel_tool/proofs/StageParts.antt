@@ -47,5 +47,6 @@ module _ (job : JobData) (ring : Ring) (is_ring : IsRingOf ring job) (i r : ℕ)
     factor_part = subst (IsFactorPart job i j r) at (record {
       degree = (are.parts ring is_ring).degrees j nothing here;
       parts = λ other also. (are.parts other also).parts j nothing here;
-      slices = λ fs at. sym (part_of-maps job.modulus job.weights (parts_of row) j here) ∙ (are.slices fs at).slices j low;
+      slices = λ fs at. sym (part_of-maps job.modulus job.weights (parts_of row) j here)
+          ∙ (are.slices fs at).slices j low;
     })

@@ -9,8 +9,8 @@
 --     power_key r      the key of the power r of the first variable
 --     cell_terms r c      c times that power as a list of terms; none where c is 0
 --     cell_part r c      the part of degree r with these terms
---     IsJobOfTerms job ts      the job has one variable, all its weights are 1, and its polynomial is the sum of the terms, of
---         which there is one at least; none is an empty product
+--     IsJobOfTerms job ts      the job has one variable, all its weights are 1, and its polynomial is the sum of
+--         the terms, of which there is one at least; none is an empty product, and the leading number is known to be 1
 --     IsTableOf job ring K D cells      the polynomial of the job has the formal degree K; cells are the
 --         table of its terms up to the power D of the variable, and from that power on all sums are 0
 use Rattle.std.specs.Prelude.{◌≡◌, ◌≢◌, ℕ, ◌+◌, ◌*◌, ◌%◌, ◌≤◌, ◌==◌, ◌&&◌, max, Bool, if◌then◌else◌}
@@ -27,7 +27,7 @@ use Rattle.parts.specs.Rings.{modulus_of}
 use Rattle.parts.specs.declared.rings.Ring.{Ring}
 use Rattle.hensel_tool.specs.declared.script.PlainFactor.{PlainFactor}
 use Rattle.hensel_tool.specs.declared.script.PlainTerm.{PlainTerm}
-use Rattle.hensel_tool.specs.Plain.{plain_tree, variable_power}
+use Rattle.hensel_tool.specs.Plain.{plain_tree, variable_power, HasLeadOne}
 use Rattle.hensel_tool.specs.PlainValue.{main_power, signed_coefficient}
 
 abbrev pub has_powers : List PlainFactor → ℕ → ℕ → Bool
@@ -59,6 +59,7 @@ pub record IsJobOfTerms (job : JobData) (ts : List PlainTerm) : Type 0 where
   pub tree : job.expr ≡ plain_tree ts
   pub some : ts ≢ []
   pub filled : All (λ (t : PlainTerm). t.factors ≢ []) ts
+  pub lead : HasLeadOne job.modulus ts
 
 pub record IsTableOf (job : JobData) (ring : Ring) (K D : ℕ) (cells : List ℕ) : Type 0 where
   pub terms : List PlainTerm

@@ -19,7 +19,8 @@
 --     IsWritten input s      the input has the lines of the plain form and says s
 --     IsSmall terms      no power of the variable is above 4095, the formal degree is at most 32,
 --         and the nodes are at most 4096
---     IsPlain input s      the input is a script of the plain form and says s: both
+--     HasLeadOne m terms      by the form of their tree the leading number modulo m is known to be 1
+--     IsPlain input s      the input is a script of the plain form and says s: all three
 use Rattle.std.specs.Prelude.{◌≡◌, ◌≢◌, ℕ, ◌-◌, ◌%◌, ◌^◌, ◌<◌, ◌≤◌, true, false, List, [], ◌∷◌, ◌++◌, length, codes}
 use Rattle.std.specs.Prelude.{sum_by, map, replicate, if◌then◌else◌}
 use Rattle.std.specs.Prelude.{Option, Some, None}
@@ -31,6 +32,7 @@ use Rattle.ps_model.specs.declared.job.Root.{Root}
 use Rattle.ps_model.specs.Job.{series_ring}
 use Rattle.ps_model.specs.SeriesRing.{SeriesRing}
 use Rattle.ps_model.specs.Tree.{formal_degree, node_count}
+use Rattle.ps_model.specs.Value.{HasLead}
 use Rattle.hensel_tool.specs.declared.script.PlainFactor.{PlainFactor}
 use Rattle.hensel_tool.specs.declared.script.PlainFactor.TheVariants as factor
 use Rattle.hensel_tool.specs.declared.script.PlainTerm.{PlainTerm}
@@ -167,6 +169,10 @@ pub record IsSmall (terms : List PlainTerm) : Type 0 where
   pub degree : formal_degree (plain_tree terms) ≤ 32
   pub nodes : node_count (plain_tree terms) ≤ 4096
 
+abbrev pub HasLeadOne : ℕ → List PlainTerm → Type 0
+HasLeadOne m terms = HasLead (plain_ring m) (plain_tree terms) 1
+
 pub record IsPlain (input : List ℕ) (s : Plain) : Type 0 where
   pub written : IsWritten input s
   pub small : IsSmall s.terms
+  pub lead : HasLeadOne s.modulus s.terms

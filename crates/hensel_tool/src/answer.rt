@@ -1,8 +1,8 @@
 //! What `factor` answers to an input.
-ghost use Rattle.std.specs.Prelude.{◌≡◌, ℕ, ◌+◌, ◌<◌, ◌≤◌, ◌^◌, List, IfOk, OnOk, OnErr};
+ghost use Rattle.std.specs.Prelude.{◌≡◌, ◌↔◌, ℕ, ◌+◌, ◌<◌, ◌≤◌, ◌^◌, List, IsTrue, IfOk, OnOk, OnErr};
 ghost use Rattle.ps_model.specs.Job.{IsValidJob};
 ghost use Rattle.residue.specs.Residues.{number_of};
-ghost use Rattle.hensel_tool.specs.Plain.{IsPlain, plain_job};
+ghost use Rattle.hensel_tool.specs.Plain.{IsPlain, IsSmall, HasLeadOne, plain_job};
 ghost use Rattle.hensel_tool.specs.Form.{IsOfForm};
 ghost use Rattle.hensel_tool.specs.Output.{not_built as not_built_line, steps_of};
 ghost use Rattle.hensel_tool.specs.Output.{IsRequestText};
@@ -12,9 +12,9 @@ ghost use Rattle.hensel_tool.specs.PlainView.{plain_view};
 use crate::factoring::factored;
 use crate::fault::first_fault;
 use crate::fault_line::fault_line;
-use crate::measures::is_small;
+use crate::measures::{is_monic, is_small};
 use crate::plain::read;
-use crate::script::PlainScript;
+use crate::script::{PlainScript, PlainTerm};
 use crate::status::{DONE, NOT_BUILT, REFUSED};
 use prepare::Tally;
 use ps_model::OutOfMemory;
@@ -40,20 +40,31 @@ pub fn answer_to(alloc: Global, input: &[u8], tally: &mut Tally) -> Result<Reply
     match read(alloc, input)? {
         None => Ok(not_built(alloc)?),
         Some(script) => {
-            if !is_small(script.terms.as_slice()) {
+            let modulus = Modulus::new(script.modulus).unwrap();
+            if !is_built(modulus, script.terms.as_slice()) {
                 return Ok(not_built(alloc)?);
             }
-            answer_script(alloc, &script, tally)
+            answer_script(alloc, modulus, &script, tally)
         }
     }
+}
+
+/// Whether scripts with these terms are built: the terms keep the limits, and their leading number
+/// is known to be 1.
+pub fn is_built(modulus: Modulus, terms: &[PlainTerm]) -> bool
+    ensures { IsTrue result ↔ (IsSmall terms.now × HasLeadOne (number_of modulus) terms.now) }
+{
+    is_small(terms) && is_monic(modulus, terms)
 }
 
 /// The answer to a script of the plain form.
 fn answer_script(
     alloc: Global,
+    modulus: Modulus,
     script: &PlainScript<'_>,
     tally: &mut Tally,
 ) -> Result<Reply, OutOfMemory>
+    requires modulus { number_of modulus ≡ script.now.modulus }
     requires form { IsOfForm (plain_view script.now) }
     requires room { tally.old ≤ 2 ^ 60 }
     ensures output { IfOk result (λ reply. (input : List ℕ) → IsPlain input (plain_view script.now)
@@ -62,7 +73,6 @@ fn answer_script(
         StopsWithin input tally.old tally.new) }
     ensures low { IfOk result (λ reply. reply.status < 2) }
 {
-    let modulus = Modulus::new(script.modulus).unwrap();
     match first_fault(alloc, modulus, script)? {
         Some(fault) => Ok(Reply {
             text: fault_line(alloc, &fault)?,

@@ -1,5 +1,5 @@
 //! The text of a block, from the homogeneous parts of the factors.
-ghost use Rattle.std.specs.Prelude.{◌≡◌, ◌++◌, ◌+◌, ◌<◌, ◌≤◌, List, map, length, codes, decimal, IfOk, OnOk};
+ghost use Rattle.std.specs.Prelude.{◌≡◌, ◌++◌, ◌+◌, ◌<◌, ◌≤◌, List, map, length, codes, decimal, None, IfOk, OnOk};
 ghost use Rattle.ps_model.specs.AcceptedJob.{IsAccepted};
 ghost use Rattle.ps_model.specs.BlockText.{newline, power_text, term_text, terms_text, printed_terms};
 ghost use Rattle.ps_model.specs.BlockText.{power_line, power_lines, factor_text, block_text};
@@ -17,7 +17,7 @@ use ps_model::{OutOfMemory, Root};
 use std::alloc::{AllocError, Global};
 
 /// The block of a job's factors up to degree `precision`; `names` are the variables' names in order,
-/// and `roots` the job's.
+/// and `roots` the job's. It shows no lead.
 ///
 /// It takes time linear in the number of parts that it reads, and in the length of the text.
 pub fn block<F: FactorParts>(
@@ -34,7 +34,7 @@ pub fn block<F: FactorParts>(
     ensures { IfOk result (λ text. (fs : List (Poly (job_ring (F.job factors.now))))
         → IsFactors (F.job factors.now) precision fs
         → text.items ≡ block_text (job_ring (F.job factors.now)) (map (λ n. n.now) names.now)
-        roots.now fs precision) }
+        None roots.now fs precision) }
 {
     let mut text = Vec::new(alloc);
     push_precision(&mut text, precision)?;

@@ -129,6 +129,3 @@ fn empty_rows(
     }
     Ok(rows)
 }
-
-#[cfg(test)]
-mod tests;

@@ -7,7 +7,7 @@ ghost use Rattle.hensel_tool.specs.Form.{IsOfForm};
 ghost use Rattle.hensel_tool.specs.PlainFaultView.{fault_of};
 ghost use Rattle.hensel_tool.specs.PlainView.{plain_view};
 
-use crate::measures::{formal_degree, is_monic};
+use crate::measures::formal_degree;
 use crate::origin::first_difference;
 use crate::roots::{near_pair, roots_of, total_times};
 use crate::script::PlainScript;
@@ -18,8 +18,6 @@ use std::alloc::Global;
 /// The first fault of a plain script's job, with the values that are told.
 #[derive(Clone, Copy, Debug, PartialEq, Eq)]
 pub enum PlainFault {
-    /// The leading number isn't 1, or isn't known.
-    NotMonic,
     /// The formal degree, and the sum of the multiplicities, at most 2^32 - 1.
     DegreeMismatch {
         degree: u32,
@@ -56,9 +54,6 @@ pub fn first_fault(
         (IsValidJob (plain_job (plain_view script.now)))) }
 {
     let terms = script.terms.as_slice();
-    if !is_monic(modulus, terms) {
-        return Ok(Some(PlainFault::NotMonic));
-    }
     let degree = formal_degree(terms);
     let roots = roots_of(alloc, modulus, script.roots.as_slice())?;
     let total = total_times(&roots);

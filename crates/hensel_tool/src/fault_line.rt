@@ -23,7 +23,6 @@ fn push_fault(line: &mut Vec<u8>, fault: &PlainFault) -> Result<(), AllocError>
     ensures { OnOk result (line.new.items ≡ line.old.items ++ fault_text (fault_of fault.now)) }
 {
     match fault {
-        PlainFault::NotMonic => line.extend_from_slice(b"not monic")?,
         PlainFault::DegreeMismatch { degree, total } => {
             push_told(line, b"degree ", *degree as u64)?;
             push_told(line, b", roots give ", *total as u64)?;

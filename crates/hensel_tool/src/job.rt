@@ -78,6 +78,3 @@ fn single(alloc: Global, factor: PlainFactor) -> Result<Expr, OutOfMemory>
         }
     })
 }
-
-#[cfg(test)]
-mod tests;

@@ -1,10 +1,8 @@
 //! Degree, nodes and leading number of a plain polynomial, and the limits that it keeps.
 ghost use Rattle.std.specs.Prelude.{◌≡◌, ◌≤◌, ◌↔◌, ◌∷◌, [], IsTrue, SomeIff};
 ghost use Rattle.ps_model.specs.Tree.{formal_degree};
-ghost use Rattle.ps_model.specs.Value.{HasLead};
-ghost use Rattle.hensel_tool.specs.Plain.{plain_ring};
 ghost use Rattle.residue.specs.Residues.{number_of};
-ghost use Rattle.hensel_tool.specs.Plain.{plain_tree, IsSmall};
+ghost use Rattle.hensel_tool.specs.Plain.{plain_tree, IsSmall, HasLeadOne};
 ghost use Rattle.hensel_tool.specs.PlainValue.{power_of_main};
 ghost use Rattle.hensel_tool.specs.Measures.{greatest_main_power, factor_nodes, IsWithinLimits};
 ghost use Rattle.hensel_tool.specs.Measures.{is_product, size_of, size_with};
@@ -56,10 +54,10 @@ pub fn formal_degree(terms: &[PlainTerm]) -> u32
     greatest_main_power(terms) as u32
 }
 
-/// Whether the leading number is known by the sum's form and is 1: no term of the formal degree
+/// Whether the leading number is known to be 1 by the sum's form: no term of the formal degree
 /// has the variable, and the coefficients of these terms, with their signs, add to 1.
 pub fn is_monic(modulus: Modulus, terms: &[PlainTerm]) -> bool
-    ensures { IsTrue result ↔ HasLead (plain_ring (number_of modulus)) (plain_tree terms.now) 1 }
+    ensures { IsTrue result ↔ HasLeadOne (number_of modulus) terms.now }
 {
     let degree = greatest_main_power(terms);
     let mut lead = 0;

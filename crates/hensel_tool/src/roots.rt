@@ -2,7 +2,7 @@
 ghost use Rattle.std.specs.Prelude.{◌≡◌, ◌+◌, ◌<◌, map, length, IfOk};
 ghost use Rattle.std.specs.List.{All};
 ghost use Rattle.ps_model.specs.Factors.{total_times};
-ghost use Rattle.ps_model.specs.Job.{told_count};
+ghost use Rattle.ps_model.specs.Input.{told_count};
 ghost use Rattle.residue.specs.Residues.{number_of, IsResidue};
 ghost use Rattle.hensel_tool.specs.Plain.{root_of};
 ghost use Rattle.hensel_tool.specs.Apart.{IsNearPair, IsNearRoot};

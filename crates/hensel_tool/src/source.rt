@@ -175,6 +175,3 @@ fn variable_power(factors: &[PlainFactor]) -> u128
     }
     power
 }
-
-#[cfg(test)]
-mod tests;

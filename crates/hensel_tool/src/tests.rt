@@ -1,6 +1,4 @@
 //! Scripts with their texts, statuses and steps.
-mod sizes;
-
 use crate::run;
 use ports::{CalmSource, MemorySink, MemorySource, Source};
 use prepare::Tally;
@@ -186,27 +184,7 @@ fn one_root_gets_its_block(rt: HostRuntime) -> Result<(), Fail> {
 // The first of several faults is told.
 #[test]
 fn a_fault_of_the_job_is_told(rt: HostRuntime) -> Result<(), Fail> {
-    let cases: [(&str, &[u8], &[u8]); 20] = [
-        (
-            "a leading number that isn't 1",
-            b"mod 7\nvars x\npoly 2*Y^2\nroots 0:2\n",
-            b"refused line 4: not monic\n",
-        ),
-        (
-            "a leading coefficient with the variable",
-            b"mod 7\nvars x\npoly Y + x*Y\nroots 0:1\n",
-            b"refused line 4: not monic\n",
-        ),
-        (
-            "another degree as well",
-            b"mod 7\nvars x\npoly 2*Y^2\nroots 0:3\n",
-            b"refused line 4: not monic\n",
-        ),
-        (
-            "no Y",
-            b"mod 7\nvars x\npoly x\nroots 0:1\n",
-            b"refused line 4: not monic\n",
-        ),
+    let cases: [(&str, &[u8], &[u8]); 14] = [
         (
             "another degree",
             b"mod 7\nvars x\npoly Y^2 + x\nroots 0:3\n",
@@ -236,16 +214,6 @@ fn a_fault_of_the_job_is_told(rt: HostRuntime) -> Result<(), Fail> {
             "a value of the root's power",
             b"mod 15\nvars x\npoly Y^2 + 11*Y\nroots 17:2\n",
             b"refused line 4: power 0: input 0, roots 4\n",
-        ),
-        (
-            "a leading minus",
-            b"mod 7\nvars x\npoly -Y + x\nroots 0:1\n",
-            b"refused line 4: not monic\n",
-        ),
-        (
-            "terms of the formal degree that cancel",
-            b"mod 7\nvars x\npoly Y^3 - Y^3 + Y\nroots 0:1\n",
-            b"refused line 4: not monic\n",
         ),
         (
             "the sum of the multiplicities",
@@ -296,7 +264,7 @@ fn a_fault_of_the_job_is_told(rt: HostRuntime) -> Result<(), Fail> {
 
 #[test]
 fn every_other_script_is_refused(rt: HostRuntime) -> Result<(), Fail> {
-    let cases: [(&str, &[u8]); 26] = [
+    let cases: [(&str, &[u8]); 32] = [
         ("nothing", b""),
         (
             "no last newline",
@@ -373,6 +341,27 @@ fn every_other_script_is_refused(rt: HostRuntime) -> Result<(), Fail> {
         (
             "the precision 4096",
             b"mod 5\nvars x\npoly Y^2 + x\nroots 0:2\nshow 4096\n",
+        ),
+        (
+            "a leading number that isn't 1",
+            b"mod 7\nvars x\npoly 2*Y^2\nroots 0:2\n",
+        ),
+        (
+            "a leading coefficient with the variable",
+            b"mod 7\nvars x\npoly Y + x*Y\nroots 0:1\n",
+        ),
+        (
+            "another degree as well",
+            b"mod 7\nvars x\npoly 2*Y^2\nroots 0:3\n",
+        ),
+        ("no Y", b"mod 7\nvars x\npoly x\nroots 0:1\n"),
+        (
+            "a leading minus",
+            b"mod 7\nvars x\npoly -Y + x\nroots 0:1\n",
+        ),
+        (
+            "terms of the formal degree that cancel",
+            b"mod 7\nvars x\npoly Y^3 - Y^3 + Y\nroots 0:1\n",
         ),
     ];
     for (shows, script) in cases {

@@ -1,5 +1,6 @@
 -- What an accumulator's calls know once its cells are made: terms of parts have places among them.
-use Rattle.std.proofs.Common.{◌≡◌, ℕ, ◌+◌, ◌*◌, ◌%◌, ◌^◌, ◌<◌, ◌≤◌, ◌∙◌, Bool, List, ap, sym, subst, arith, length, take, map}
+use Rattle.std.proofs.Common.{◌≡◌, ℕ, ◌+◌, ◌*◌, ◌%◌, ◌^◌, ◌<◌, ◌≤◌, ◌∙◌, Bool, List, ap, sym, subst, arith, length}
+use Rattle.std.proofs.Common.{take, map}
 use Rattle.std.proofs.Common.{All, [], ◌∷◌}
 use Rattle.std.specs.FinMap.{entries, from_entries}
 use Rattle.parts.specs.Cells.{cells_total, row_total, GainsRow}
@@ -39,7 +40,8 @@ pub cells_part : (ring : Ring) (d : ℕ) (cells : List ℕ) → length cells ≤
     IsPartOf ring p
 cells_part ring d cells below p at_d is =
     subst (IsPartOf ring) (λ i. record { degree = sym at_d i; map = sym is i })
-    (part_of (modulus_of ring) d (weights_of ring) cells (let h = ring.modulus.low in omega arith) (ring_few ring) below)
+    (part_of (modulus_of ring) d (weights_of ring) cells (let h = ring.modulus.low in
+    omega arith) (ring_few ring) below)
 
 -- the terms that cells hold, of a ring's modulus and weights under other names
 module _ (ring : Ring) (d : ℕ) (cells old weights : List ℕ) (m n : ℕ) (ts : List Term) (n_is : n ≡ ring.n)

@@ -155,7 +155,8 @@ module _ (ring : Ring) (d : ℕ) where
   pub total_is : (es : List (Key 8 × ℕ)) (ts : List Term) → IsTotal ring d es ts →
       from_entries {R = key_compare 8} (map entry_of ts) ≡ collected (key_compare 8) (modulus_of ring) es
   total_is es ts h = let two = ring.modulus.low in
-      is_collected (ring_of 8 (modulus_of ring) two (weights_from 8 []) (weights_from-positive 8 [])) (map entry_of ts) es
+      is_collected (ring_of 8 (modulus_of ring) two (weights_from 8 []) (weights_from-positive 8 []))
+      (map entry_of ts) es
       h.terms.order.0 (residues ts h.terms.order.1 h.terms.entries)
       (λ q. h.totals (at_key (ring_of 8 (modulus_of ring) two (weights_from 8 []) (weights_from-positive 8 [])) q))
 

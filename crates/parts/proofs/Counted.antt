@@ -95,7 +95,8 @@ count-more w ws d some le = first_and_rest w ws d ∙ ap (λ n. monomials_up_to 
     rest : length (all_with w ws d 1 (d / w)) ≡ monomials_up_to (w ∷ ws) (d - w)
     rest = lists_moved (with_power w ws d) (with_power w ws (d - w)) (d / w) 0 each ∙
         ap (λ n. length (all_with w ws (d - w) 0 n))
-        (let next = div-eq-sub-div {m = w} {n = d} some le in let more : d / w ≡ suc ((d - w) / w) = omega arith in more) ∙
+        (let next = div-eq-sub-div {m = w} {n = d} some le in let more : d / w ≡ suc ((d - w) / w) = omega arith in
+        more) ∙
         sym (ap length (powers-cons w ws (d - w)))
 
 -- up to a greater degree there are no fewer
@@ -137,7 +138,8 @@ pub counts_small : (ws : List ℕ) (D : ℕ) (counts : List ℕ) → D ≤ 4095 
 counts_small ws D counts low few are d le =
     let is = are d le in
     let small = count-small ws d (omega arith) in
-    let most : 4096 ^ length ws ≤ 4096 ^ 8 = pow-le-pow_right {n = 4096} (lit< tt) {i = length ws} {j = 8} (omega arith) in
+    let most : 4096 ^ length ws ≤ 4096 ^ 8 = pow-le-pow_right {n = 4096} (lit< tt) {i = length ws} {j =
+    8} (omega arith) in
     let fits : 4096 ^ 8 < 2 ^ 96 + 1 = lit< tt in
     omega arith
 
@@ -152,7 +154,8 @@ counts_more ws k D old new lt some adds are =
 
 -- the same for the first n of some weights, from the last one on
 pub counts_next : (n : ℕ) (ws : List ℕ) (k j D : ℕ) (old new : List ℕ) → n ≤ length ws → k ≡ j + 1 → k ≤ n →
-    All (λ w. 0 < w) ws → AddsVariable (get_or ws j 0) D old new → AreCounts (monomials_up_to (drop k (take n ws))) D old →
+    All (λ w. 0 < w) ws → AddsVariable (get_or ws j 0) D old new
+    → AreCounts (monomials_up_to (drop k (take n ws))) D old →
     AreCounts (monomials_up_to (drop j (take n ws))) D new
 counts_next n ws k j D old new long next le positive adds are =
     counts_more (take n ws) j D old new (omega (arith, long_take n ws long))

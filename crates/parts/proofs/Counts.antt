@@ -1,5 +1,6 @@
 -- Numbers of monomials of one degree, and of their cells.
-use Rattle.std.proofs.Common.{◌≡◌, ℕ, zero, suc, ◌+◌, ◌-◌, ◌*◌, ◌/◌, ◌^◌, ◌<◌, ◌≤◌, refl, sym, ◌∙◌, ap, subst, arith, List, []}
+use Rattle.std.proofs.Common.{◌≡◌, ℕ, zero, suc, ◌+◌, ◌-◌, ◌*◌, ◌/◌, ◌^◌, ◌<◌, ◌≤◌, refl, sym, ◌∙◌, ap, subst, arith}
+use Rattle.std.proofs.Common.{List, []}
 use Rattle.std.proofs.Common.{◌∷◌, length, get_or, drop, add-one}
 use Rattle.std.proofs.Math.Nat.{div-eq_of_lt, add-div_right, mul-le-mul, div-le_self, div-mul-le_self}
 use Rattle.std.proofs.lemmas.Nat.{le-div}

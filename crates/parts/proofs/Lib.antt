@@ -19,3 +19,4 @@ pub mod RowSlices
 pub mod RowsRead
 pub mod Counts
 pub mod Added
+pub mod Accumulated

@@ -5,7 +5,8 @@
 --     AreCounts count D counts      the count at place d is count d, for each d up to D
 --     AddsVariable w D old new      with one more variable, of weight w: up to degree D a count is that
 --         without it, and from w on added to the new count at the degree less w
-use Rattle.std.specs.Prelude.{◌≡◌, ℕ, suc, ◌+◌, ◌-◌, ◌*◌, ◌/◌, ◌<◌, ◌≤◌, List, [], ◌∷◌, length, map, flat_map, slice_index_or}
+use Rattle.std.specs.Prelude.{◌≡◌, ℕ, suc, ◌+◌, ◌-◌, ◌*◌, ◌/◌, ◌<◌, ◌≤◌, List, [], ◌∷◌, length, map, flat_map}
+use Rattle.std.specs.Prelude.{slice_index_or}
 use Rattle.std.specs.List.{range_with_len}
 
 -- each power x of the first variable, before the powers of the others up to what x leaves

@@ -2,15 +2,15 @@
 --     IsPermitted ws d      the degree d may be asked for with variables of the weights ws
 --     IsRingOf ring job      the ring has the job's modulus, its number of variables and its weights
 --     AreJobParts job K r row      of degree r a part for each power of Y from 0 to K, of the job's ring
---     IsInputRow job r row      the parts of degree r of the value of the job's tree, by power of Y from 0
---         to its formal degree
+--     IsInputRow job r row      the parts of degree r of the job's monic input, by power of Y from 0 to the
+--         formal degree
 use Rattle.std.specs.Prelude.{◌≡◌, ℕ, ◌≤◌, List}
 use Rattle.ps_model.specs.declared.job.JobData.{JobData}
 use Rattle.ps_model.specs.Job.{job_ring}
 use Rattle.ps_model.specs.Rows.{IsRowOf}
 use Rattle.ps_model.specs.SeriesRing.{Poly}
 use Rattle.ps_model.specs.Tree.{formal_degree}
-use Rattle.ps_model.specs.Value.{IsValue}
+use Rattle.ps_model.specs.Lead.{IsMonicInput}
 use Rattle.parts.specs.declared.rings.Ring.{Ring}
 use Rattle.parts.specs.Counting.{monomials_up_to}
 use Rattle.parts.specs.PartValue.{PartValue}
@@ -31,8 +31,8 @@ IsRingOf ring job =
 abbrev pub AreJobParts : JobData → ℕ → ℕ → List PartValue → Type 0
 AreJobParts job K r row = (ring : Ring) → IsRingOf ring job → IsRowOfParts ring K r row
 
--- the parts of degree r of what a job's tree stands for
+-- the parts of degree r of the polynomial that times the lead is what the job's tree stands for
 pub record IsInputRow (job : JobData) (r : ℕ) (row : List PartValue) : Type 0 where
   pub parts : AreJobParts job (formal_degree job.expr) r row
-  pub slices : (v : Poly (job_ring job)) → IsValue (job_ring job) r job.expr v →
-      IsRowOf (formal_degree job.expr) r v (maps_modulo job.modulus job.weights row)
+  pub slices : (q : Poly (job_ring job)) → IsMonicInput (job_ring job) r job.expr q →
+      IsRowOf (formal_degree job.expr) r q (maps_modulo job.modulus job.weights row)

@@ -32,8 +32,3 @@ pub use sharing::share;
 pub use source::RowSource;
 pub use sums::Accumulator;
 pub use terms::{Monomial, Term};
-
-#[cfg(test)]
-mod larger_tests;
-#[cfg(test)]
-mod tests;

@@ -141,4 +141,8 @@ module _ (ring : Ring) (k q inverse : ℕ) (row row_p : List PartValue) (some : 
     pub begun_with : (rows_p rows_u : List (List PartValue)) → rows_p ≡ row_p ∷ [] → rows_u ≡ drop k row ∷ []
         → IsBegun ring k q inverse row rows_p rows_u
     begun_with rows_p rows_u ps us = subst (λ t. IsBegun ring k q inverse row t rows_u) (sym ps)
-        (subst (λ t. IsBegun ring k q inverse row (row_p ∷ []) t) (sym us) (record { is_prep = begun; begins = begins }))
+        (subst (λ t. IsBegun ring k q inverse row (row_p ∷ []) t) (sym us) (record {
+          is_prep = begun;
+          begins =
+              begins;
+        }))

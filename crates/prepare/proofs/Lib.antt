@@ -1,6 +1,5 @@
 pub mod RowsRead
 pub mod Begun
-pub mod Accumulated
 pub mod Differences
 pub mod Places
 pub mod Taken

@@ -117,7 +117,8 @@ module _ (ring : Ring) (k q e d : ℕ) (rows_p rows_u : List (List PartValue)) (
           → IsPrepared G k q (suc d) (polynomial_of ring (rows_p ++ row_p ∷ []))
           (polynomial_of ring (rows_u ++ row_u ∷ []))
       pair G powers is before =
-          subst (λ (t : List (Row (series ring))). IsPrepared G k q (suc d) (polynomial_of_rows (ring_of (series ring)) t)
+          subst (λ (t : List (Row (series ring))). IsPrepared G k q (suc d) (polynomial_of_rows (ring_of
+          (series ring)) t)
           (polynomial_of ring (rows_u ++ row_u ∷ []))) (sym maps_p)
           (subst (λ (t : List (Row (series ring))). IsPrepared G k q (suc d)
           (polynomial_of_rows (ring_of (series ring)) (rows_maps ring rows_p ++ row_maps ring row_p ∷ []))

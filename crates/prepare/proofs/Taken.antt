@@ -13,9 +13,9 @@ use Rattle.parts.specs.Rings.{modulus_of}
 use Rattle.parts.specs.RowsOfParts.{part_in}
 use Rattle.parts.specs.Series.{series, polynomial_in}
 use Rattle.parts.specs.declared.rings.Ring.{Ring}
+use Rattle.parts.proofs.Accumulated.{with_product-less, with_multiple-is, scaled-is}
 use Rattle.parts.proofs.Polynomials.{part_at-rows, polynomial_in-empty}
 use Rattle.prepare.specs.Recurrence.{poly, slices, Subtracts}
-use Rattle.prepare.proofs.Accumulated.{with_product-is, with_multiple-is, scaled-is}
 use Rattle.prepare.proofs.Differences.{difference-difference, difference-zero, difference-more, difference-none}
 use Rattle.prepare.proofs.Places.{IsPartAt}
 
@@ -58,7 +58,7 @@ module _ (ring : Ring) where
     degree_is = ap (λ (t : AccumulatorValue). t.degree) is;
     sum_is = ap (λ (t : AccumulatorValue). polynomial_in ring t.map) is
         ∙ ap (λ (R : Ring). polynomial_in ring (with_product (modulus_of R) true acc.map x.map y.map)) same
-        ∙ with_product-is ring acc.map x.map y.map;
+        ∙ with_product-less ring acc.map x.map y.map;
   }
 
   -- the product of two parts in rows

@@ -11,6 +11,3 @@ mod tally;
 pub use error::PrepError;
 pub use prep::Prep;
 pub use tally::Tally;
-
-#[cfg(test)]
-mod tests;

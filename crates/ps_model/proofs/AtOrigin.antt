@@ -1,24 +1,27 @@
 -- Values at the origin that compute: of trees without divisions, and of root powers.
-use Rattle.std.proofs.Common.{◌≡◌, ℕ, ◌-◌, ◌*◌, ◌%◌, ◌<◌, T, List, [], ◌∷◌, refl, sym, ◌∙◌, ap}
+use Rattle.std.proofs.Common.{◌≡◌, ℕ, ◌-◌, ◌*◌, ◌%◌, ◌<◌, T, List, [], ◌∷◌, refl, sym, ◌∙◌, ap, subst}
 use Rattle.std.proofs.Common.{arith}
 use Rattle.std.specs.Int.{IsGcd}
 use Rattle.std.proofs.lemmas.Nat.Gcd.{IsGcd-from_zero, IsGcd-from_mod, IsGcd-swap}
 use Rattle.ps_model.specs.declared.expr.Expr.{Expr}
 use Rattle.ps_model.specs.declared.job.JobData.{JobData}
 use Rattle.ps_model.specs.declared.job.Root.{Root}
-use Rattle.ps_model.specs.Sums.{total}
+use Rattle.ps_model.specs.Sums.{total, multiples}
 use Rattle.ps_model.specs.Keys.{Key, y_key}
-use Rattle.ps_model.specs.Polynomial.{polynomial, sum, product, power}
+use Rattle.ps_model.specs.Polynomial.{polynomial, sum, scaled, product, power}
 use Rattle.ps_model.specs.Shift.{linear}
 use Rattle.ps_model.specs.Bounds.{IsUnit}
-use Rattle.ps_model.specs.SeriesRing.{SeriesRing, ring}
+use Rattle.ps_model.specs.SeriesRing.{SeriesRing, ring, Poly}
+use Rattle.ps_model.specs.Tree.{formal_degree}
+use Rattle.ps_model.specs.Lead.{lead_in}
 use Rattle.ps_model.specs.Factors.{root_power, root_powers}
 use Rattle.ps_model.specs.Notation.{coefficient}
 use Rattle.ps_model.specs.Divisions.{IsDivisor, Fails}
-use Rattle.ps_model.specs.Job.{job_ring, AreAtOrigin, DifferAt}
+use Rattle.ps_model.specs.Job.{job_ring, LeadNotAUnit, IsFault, AreAtOrigin, DifferAt}
 use Rattle.ps_model.proofs.Coefficients.{at_key, coefficient-polynomial}
 use Rattle.ps_model.proofs.FormalSums.{normal, polynomial-normal, same_sums, one_listed, monomial_listed, sum_listed}
-use Rattle.ps_model.proofs.FormalSums.{product_listed}
+use Rattle.ps_model.proofs.FormalSums.{scaled_listed, product_listed}
+use Rattle.ps_model.proofs.YCoefficients.{constant-y_coefficient}
 use Rattle.ps_model.proofs.Evaluated.{undivided, times, power_entries, power_listed, evaluated, is_value, only_value}
 
 module _ (S : SeriesRing) where
@@ -58,31 +61,70 @@ module _ (job : JobData) where
   abbrev pub tree_at : ℕ → ℕ
   tree_at p = number_at S (evaluated S 0 job.expr) (y_key S.variables p)
 
+  -- the lead's constant term
+  abbrev pub lead_at : ℕ
+  lead_at = tree_at (formal_degree job.expr)
+
   abbrev pub roots_at : ℕ → ℕ
-  roots_at p = number_at S (roots_entries S job.roots) (y_key S.variables p)
+  roots_at p = number_at S (multiples lead_at (roots_entries S job.roots)) (y_key S.variables p)
+
+  abbrev value : Poly S
+  value = polynomial (ring S) (evaluated S 0 job.expr)
+
+  lead_is : coefficient {R = ring S} (lead_in S job.expr value) (y_key S.variables 0) ≡ lead_at
+  lead_is = constant-y_coefficient (ring S) (formal_degree job.expr) value
+      ∙ coefficient-polynomial (ring S) (evaluated S 0 job.expr) (y_key S.variables (formal_degree job.expr))
+
+  powers_listed : scaled (ring S) (coefficient {R = ring S} (lead_in S job.expr value) (y_key S.variables 0))
+      (root_powers {R = ring S} job.roots)
+      ≡ polynomial (ring S) (multiples lead_at (roots_entries S job.roots))
+  powers_listed = (λ i. scaled (ring S) (lead_is i) (roots_listed S job.roots i)) ∙ scaled_listed (ring S) lead_at _
 
   -- the coefficients of Y^p
   pub at_origin : T (undivided job.expr) → (p : ℕ) → AreAtOrigin job p (tree_at p) (roots_at p)
   at_origin h p = (
-    polynomial (ring S) (evaluated S 0 job.expr),
+    value,
     is_value S 0 job.expr h,
     sym (coefficient-polynomial (ring S) _ _),
-    sym (ap (λ q. coefficient q (y_key S.variables p)) (roots_listed S job.roots)
-        ∙ coefficient-polynomial (ring S) _ _),
+    sym (ap (λ q. coefficient q (y_key S.variables p)) powers_listed ∙ coefficient-polynomial (ring S) _ _),
+  )
+
+  -- of any value
+  of_value : (v : Poly S) → v ≡ value → (p input roots : ℕ) → input ≡ coefficient v (y_key S.variables p) → roots
+      ≡ coefficient (scaled (ring S) (coefficient {R = ring S} (lead_in S job.expr v) (y_key S.variables 0))
+      (root_powers {R = ring S} job.roots)) (y_key S.variables p)
+      → (input ≡ tree_at p) × (roots ≡ roots_at p)
+  of_value v e p input roots at at' = (
+    at ∙ ap (λ v. coefficient v (y_key S.variables p)) e ∙ coefficient-polynomial (ring S) _ _,
+    at' ∙ ap (λ v. coefficient (scaled (ring S) (coefficient {R = ring S} (lead_in S job.expr v) (y_key S.variables 0))
+        (root_powers {R = ring S} job.roots)) (y_key S.variables p)) e
+        ∙ ap (λ q. coefficient q (y_key S.variables p)) powers_listed ∙ coefficient-polynomial (ring S) _ _,
   )
 
   pub agree_at : T (undivided job.expr) → (p : ℕ) → tree_at p ≡ roots_at p → DifferAt job p → ⊥
-  agree_at h p same (input, roots, (v, is, at, at'), differ) = differ (at
-      ∙ ap (λ q. coefficient q (y_key S.variables p)) (only_value S 0 job.expr h v is)
-      ∙ coefficient-polynomial (ring S) _ _ ∙ same ∙ sym (at'
-      ∙ ap (λ q. coefficient q (y_key S.variables p)) (roots_listed S job.roots)
-      ∙ coefficient-polynomial (ring S) _ _))
+  agree_at h p same (input, roots, (v, is, at, at'), differ) =
+      let both = of_value v (only_value S 0 job.expr h v is) p input roots at at' in
+      differ (both.0 ∙ same ∙ sym both.1)
 
   pub agree : T (undivided job.expr) → normal (ring S) (evaluated S 0 job.expr)
-      ≡ normal (ring S) (roots_entries S job.roots) → (p : ℕ) → DifferAt job p → ⊥
-  agree h same p (input, roots, (v, is, at, at'), differ) = differ (at
-      ∙ ap (λ q. coefficient q (y_key S.variables p)) (only_value S 0 job.expr h v is
-      ∙ same_sums (ring S) _ _ same ∙ sym (roots_listed S job.roots)) ∙ sym at')
+      ≡ normal (ring S) (multiples lead_at (roots_entries S job.roots)) → (p : ℕ) → DifferAt job p → ⊥
+  agree h same p = agree_at h p (sym (coefficient-polynomial (ring S) _ _)
+      ∙ ap (λ q. coefficient q (y_key S.variables p)) (same_sums (ring S) _ _ same)
+      ∙ coefficient-polynomial (ring S) _ _)
+
+  -- the lead's constant term, a unit or not
+  pub lead_fault : T (undivided job.expr) → (gcd : ℕ) → (IsUnit S.modulus lead_at → ⊥)
+      → IsGcd lead_at S.modulus gcd → IsFault job (LeadNotAUnit lead_at gcd)
+  lead_fault h gcd not_unit is = (
+    (lead_in S job.expr value, (value, is_value S 0 job.expr h, refl), sym lead_is),
+    not_unit,
+    is,
+  )
+
+  pub unit_lead : T (undivided job.expr) → IsUnit S.modulus lead_at → (v g : ℕ) → IsFault job (LeadNotAUnit v g) → ⊥
+  unit_lead h unit v g ((l, (w, is, at), at'), not_unit, gcd) = not_unit (subst (IsUnit S.modulus) (sym (at'
+      ∙ ap (λ l. coefficient {R = ring S} l (y_key S.variables 0)) (at
+      ∙ ap (lead_in S job.expr) (only_value S 0 job.expr h w is)) ∙ lead_is)) unit)
 
   -- the value of a divisor at the origin
   abbrev pub divisor_at : Expr → ℕ

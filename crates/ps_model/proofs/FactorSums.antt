@@ -5,21 +5,22 @@ use Rattle.ps_model.specs.declared.job.JobData.{JobData}
 use Rattle.ps_model.specs.declared.job.Root.{Root}
 use Rattle.ps_model.specs.Sums.{kept}
 use Rattle.ps_model.specs.Keys.{Key, y_key}
-use Rattle.ps_model.specs.Polynomial.{polynomial, one, product}
+use Rattle.ps_model.specs.Polynomial.{polynomial, product}
 use Rattle.ps_model.specs.Truncation.{truncated}
-use Rattle.ps_model.specs.SeriesRing.{SeriesRing, ring, degree, Poly}
+use Rattle.ps_model.specs.SeriesRing.{SeriesRing, ring, degree}
 use Rattle.ps_model.specs.Prepared.{IsQuotient}
-use Rattle.ps_model.specs.Factors.{IsFactor, EachIsFactor, IsFactorList, AreApart, product_of, total_times}
+use Rattle.ps_model.specs.Factors.{IsFactor, EachIsFactor, product_of}
+use Rattle.ps_model.specs.Slices.{y_coefficient}
+use Rattle.ps_model.specs.Tree.{formal_degree}
 use Rattle.ps_model.specs.Job.{job_ring, IsFactors}
 use Rattle.ps_model.specs.Value.{IsValue}
 use Rattle.ps_model.specs.Examples.{key}
 use Rattle.ps_model.proofs.FormalSums.{normal, polynomial-normal, same_sums, one_listed, monomial_listed}
 use Rattle.ps_model.proofs.FormalSums.{product_listed}
 use Rattle.ps_model.proofs.FormalSums.{kept_listed}
-use Rattle.ps_model.proofs.RingLaws.{one-product}
-use Rattle.ps_model.proofs.Factors.{factors, truncated-again}
-use Rattle.ps_model.proofs.Evaluated.{undivided, times, cut, truncated_listed, evaluated, is_value, only_value}
-use Rattle.ps_model.proofs.AtOrigin.{root_entries, root_listed, roots_entries, roots_listed}
+use Rattle.ps_model.proofs.YCoefficients.{y_entries, y_coefficient_listed}
+use Rattle.ps_model.proofs.Evaluated.{undivided, times, cut, truncated_listed, evaluated, is_value}
+use Rattle.ps_model.proofs.AtOrigin.{root_entries, root_listed}
 
 module _ (S : SeriesRing) (D : ℕ) where
   pub is_quotient : (ps bs qs : List (Key S.variables × ℕ)) → normal (ring S) (cut S D qs) ≡ normal (ring S) qs
@@ -52,57 +53,30 @@ module _ (S : SeriesRing) (D : ℕ) where
   product_of_listed (es ∷ ess) = ap (product (ring S) (polynomial (ring S) es)) (product_of_listed ess)
       ∙ product_listed (ring S) es (product_entries ess) ∙ sym (polynomial-normal (ring S) _)
 
-  pub product_is : (ess : List (List (Key S.variables × ℕ))) (vs : List (Key S.variables × ℕ))
-      → normal (ring S) (cut S D (product_entries ess)) ≡ normal (ring S) vs
-      → truncated (ring S) (degree S) D
-      (product (ring S) (one (ring S)) (product_of {R = ring S} (map (polynomial (ring S)) ess)))
+  -- times the coefficient of Y^K of a polynomial
+  pub product_is : (K : ℕ) (ess : List (List (Key S.variables × ℕ))) (vs : List (Key S.variables × ℕ))
+      → normal (ring S) (cut S D (times S (y_entries (ring S) K vs) (product_entries ess))) ≡ normal (ring S) vs
+      → truncated (ring S) (degree S) D (product (ring S) (y_coefficient (ring S) K (polynomial (ring S) vs))
+      (product_of {R = ring S} (map (polynomial (ring S)) ess)))
       ≡ polynomial (ring S) vs
-  product_is ess vs same = ap (truncated (ring S) (degree S) D)
-      (one-product (ring S) _ ∙ product_of_listed ess)
-      ∙ truncated_listed S D (product_entries ess) ∙ same_sums (ring S) _ _ same
+  product_is K ess vs same = ap (truncated (ring S) (degree S) D)
+      ((λ i. product (ring S) (y_coefficient_listed (ring S) K vs i) (product_of_listed ess i))
+      ∙ product_listed (ring S) (y_entries (ring S) K vs) (product_entries ess))
+      ∙ truncated_listed S D (times S (y_entries (ring S) K vs) (product_entries ess)) ∙ same_sums (ring S) _ _ same
 
 -- factors of a job, from its value and theirs
 pub factors_listed : (job : JobData) (D : ℕ) (vs : List (Key (job_ring job).variables × ℕ))
     (ess : List (List (Key (job_ring job).variables × ℕ)))
     → IsValue (job_ring job) D job.expr (polynomial (ring (job_ring job)) vs)
     → EachIsFactor D job.roots (map (polynomial (ring (job_ring job))) ess)
-    → normal (ring (job_ring job)) (cut (job_ring job) D (product_entries (job_ring job) D ess))
+    → normal (ring (job_ring job)) (cut (job_ring job) D (times (job_ring job)
+    (y_entries (ring (job_ring job)) (formal_degree job.expr) vs) (product_entries (job_ring job) D ess)))
     ≡ normal (ring (job_ring job)) vs → IsFactors job D (map (polynomial (ring (job_ring job))) ess)
 factors_listed job D vs ess is each same = record {
   value = polynomial (ring (job_ring job)) vs;
   is_value = is;
-  are_factors = record { each = each; product_is = product_is (job_ring job) D ess vs same };
+  are_factors = record { each = each; product_is = product_is (job_ring job) D (formal_degree job.expr) ess vs same };
 }
-
--- a job without divisions that can be factored has one list of factors at most
-module _ (job : JobData) (D : ℕ) (h : T (undivided job.expr)) where
-  abbrev S : SeriesRing
-  S = job_ring job
-
-  abbrev value : Poly S
-  value = polynomial (ring S) (evaluated S D job.expr)
-
-  is_list : (fs : List (Poly S)) → IsFactors job D fs → IsFactorList D value job.roots fs
-  is_list fs is = record {
-    each = is.are_factors.each;
-    product_is = sym (truncated-again (ring S) (degree S) D (product_of fs))
-        ∙ ap (truncated (ring S) (degree S) D) (sym (ap (truncated (ring S) (degree S) D)
-        (one-product (ring S) (product_of fs))) ∙ is.are_factors.product_is
-        ∙ only_value S D job.expr h is.value is.is_value);
-  }
-
-  pub only_factors : normal (ring S) (kept (λ k. nat_le (total_times job.roots) k.y) (evaluated S D job.expr))
-      ≡ normal (ring S) ((y_key S.variables (total_times job.roots), 1) ∷ [])
-      → normal (ring S) (cut S 0 (evaluated S D job.expr)) ≡ normal (ring S) (roots_entries S job.roots)
-      → AreApart S.modulus job.roots → (fs gs : List (Poly S)) → IsFactors job D fs → IsFactors job D gs → fs ≡ gs
-  only_factors monic origin apart fs gs is is' =
-      let one = factors (ring S) D job.roots value (record {
-        monic = kept_listed (ring S) _ (evaluated S D job.expr) ∙ same_sums (ring S) _ _ monic
-            ∙ sym (monomial_listed (ring S) 1 _);
-        at_origin = truncated_listed S 0 (evaluated S D job.expr) ∙ same_sums (ring S) _ _ origin
-            ∙ sym (roots_listed S job.roots);
-        apart = apart;
-      }) in one.only fs (is_list fs is) ∙ sym (one.only gs (is_list gs is'))
 
 -- the entries of what is written out
 abbrev pub entries_of : (n : ℕ) → List (ℕ × List ℕ × ℕ) → List (Key n × ℕ)
@@ -112,8 +86,9 @@ entries_of n ts = map (λ t. (key n t.1 t.2, t.0)) ts
 pub factors_written : (job : JobData) (D : ℕ) (tss : List (List (ℕ × List ℕ × ℕ))) → T (undivided job.expr)
     → EachIsFactor D job.roots (map (polynomial (ring (job_ring job)))
     (map (entries_of (job_ring job).variables) tss))
-    → normal (ring (job_ring job)) (cut (job_ring job) D
-    (product_entries (job_ring job) D (map (entries_of (job_ring job).variables) tss)))
+    → normal (ring (job_ring job)) (cut (job_ring job) D (times (job_ring job)
+    (y_entries (ring (job_ring job)) (formal_degree job.expr) (evaluated (job_ring job) D job.expr))
+    (product_entries (job_ring job) D (map (entries_of (job_ring job).variables) tss))))
     ≡ normal (ring (job_ring job)) (evaluated (job_ring job) D job.expr)
     → IsFactors job D (map (polynomial (ring (job_ring job))) (map (entries_of (job_ring job).variables) tss))
 factors_written job D tss h each same = factors_listed job D (evaluated (job_ring job) D job.expr)

@@ -48,7 +48,7 @@ module _ (R : Ring) (d : R.Key → ℕ) where
       ∙ ap (λ t. below R d (suc D) (product R p t)) (sym (truncated-below R d D q)) ∙ sym (truncated-below R d D _)
 
 module _ (R : Ring) where
-  homogeneous_part_0-product : (p q : Polynomial R) → homogeneous_part R R.degree 0 (product R p q)
+  pub homogeneous_part_0-product : (p q : Polynomial R) → homogeneous_part R R.degree 0 (product R p q)
       ≡ product R (homogeneous_part R R.degree 0 p) (homogeneous_part R R.degree 0 q)
   homogeneous_part_0-product p q = homogeneous_part-product R R.degree R.degree_adds 0 p q
 
@@ -58,7 +58,7 @@ module _ (R : Ring) where
   coefficient_flat p j = coefficient-kept_terms R _ p (R.y j) ∙ ap (λ n. cond (n == 0) (coefficient R p (R.y j)) 0)
       (R.degree-y j)
 
-  constant_flat : (p : Polynomial R) → coefficient R (homogeneous_part R R.degree 0 p) R.origin
+  pub constant_flat : (p : Polynomial R) → coefficient R (homogeneous_part R R.degree 0 p) R.origin
       ≡ coefficient R p R.origin
   constant_flat p = ap (coefficient R (homogeneous_part R R.degree 0 p)) (sym R.y-zero) ∙ coefficient_flat p 0
       ∙ ap (coefficient R p) R.y-zero

@@ -1,4 +1,4 @@
--- The roots of a job without faults: their multiplicities, and that they are apart.
+-- A job without faults: its tree and its lead, its roots' multiplicities, and that they are apart.
 use Rattle.std.proofs.Common.{◌≡◌, ℕ, zero, suc, ◌+◌, ◌-◌, ◌*◌, ◌%◌, ◌<◌, ◌≤◌, ◌⊎◌, inl, inr, List, [], ◌∷◌, refl, sym}
 use Rattle.std.proofs.Common.{◌∙◌, ap, subst, arith}
 use Rattle.std.specs.Prelude.{Some, slice_get, max}
@@ -10,23 +10,31 @@ use Rattle.ps_model.specs.declared.job.Root.{Root}
 use Rattle.ps_model.specs.Bounds.{IsUnit}
 use Rattle.ps_model.specs.Factors.{total_times, IsApart, AreApart}
 use Rattle.ps_model.specs.Tree.{formal_degree}
-use Rattle.ps_model.specs.Job.{job_ring, series_ring, DegreeTooLarge, DegreeMismatch, NotApart, IsPairTooNear}
-use Rattle.ps_model.specs.Job.{IsValidJob, told_count}
+use Rattle.ps_model.specs.Input.{told_count, IsValidInput}
+use Rattle.ps_model.specs.Job.{job_ring, series_ring, OfInput, LeadNotAUnit, DegreeMismatch, NotApart}
+use Rattle.ps_model.specs.Job.{IsPairTooNear, IsValidJob}
 use Rattle.ps_model.specs.AcceptedJob.{IsLawfulJob, IsAccepted}
-use Rattle.ps_model.proofs.UnitsDecided.{number_stable, unit_decided, gcd_exists}
+use Rattle.ps_model.proofs.UnitsDecided.{number_stable, unit_decided, unit_stable, gcd_exists}
+use Rattle.ps_model.proofs.MonicInputs.{HasUnitLead}
+use Rattle.ps_model.proofs.InputValues.{small_degree}
 
 -- where a job has no fault, its formal degree is the sum of the multiplicities
 pub valid_degree : (job : JobData) → IsValidJob job → formal_degree job.expr ≡ total_times job.roots
 valid_degree job valid = number_stable _ _ (λ ne. valid
     (DegreeMismatch (told_count (formal_degree job.expr)) (told_count (total_times job.roots))) (ne, refl, refl))
 
--- and at most 32
+-- its tree is an input without a fault
+pub valid_input : (job : JobData) → IsValidJob job → IsValidInput (job_ring job) job.expr
+valid_input job valid f is = valid (OfInput f) is
+
 pub valid_small : (job : JobData) → IsValidJob job → formal_degree job.expr ≤ 32
-valid_small job valid = at_most (formal_degree job.expr)
-    (λ large. valid (DegreeTooLarge (told_count (formal_degree job.expr))) (large, refl))
-  where
-    at_most : (n : ℕ) → (32 < n → ⊥) → n ≤ 32
-    at_most n h = omega arith
+valid_small job valid = small_degree (job_ring job) job.expr (valid_input job valid)
+
+-- and the lead's constant term is a unit
+pub lawful_lead : (job : JobData) → IsLawfulJob job → HasUnitLead (job_ring job) job.expr
+lawful_lead job ok l is = unit_stable (job_ring job).modulus _ (λ not.
+    let gcd = gcd_exists _ (job_ring job).modulus in
+    ok.valid (LeadNotAUnit _ gcd.0) ((l, is, refl), not, gcd.1))
 
 -- the modulus of a job's ring is the job's
 pub same_modulus : (job : JobData) → 2 ≤ job.modulus → (job_ring job).modulus ≡ job.modulus

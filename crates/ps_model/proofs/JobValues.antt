@@ -1,55 +1,34 @@
--- A lawful job: its tree divides by units, its value is factorable by the roots, and it has exactly one list of
--- factors.
-use Rattle.std.proofs.Common.{◌≡◌, ℕ, zero, suc, ◌-◌, ◌<◌, ◌≤◌, Bool, true, false, List, [], ◌∷◌, refl, sym, ◌∙◌, ap}
-use Rattle.std.proofs.Common.{subst, arith}
+-- A lawful job: it has exactly one monic input, which is factorable by the roots, and exactly one list of factors.
+use Rattle.std.proofs.Common.{◌≡◌, ℕ, ◌-◌, ◌<◌, true, false, List, [], ◌∷◌, refl, sym, ◌∙◌, ap, subst, arith}
 use Rattle.std.specs.Prelude.{◌==◌}
 use Rattle.std.proofs.lemmas.Bool.{eqb-true, eqb-false}
-use Rattle.ps_model.specs.declared.expr.Expr.{Expr}
 use Rattle.ps_model.specs.declared.job.JobData.{JobData}
 use Rattle.ps_model.specs.declared.job.Root.{Root}
 use Rattle.ps_model.specs.Ring.{Ring}
-use Rattle.ps_model.specs.Polynomial.{Polynomial, coefficient}
+use Rattle.ps_model.specs.Polynomial.{Polynomial, coefficient, scaled}
 use Rattle.ps_model.specs.Truncation.{truncated}
 use Rattle.ps_model.specs.Bounds.{IsMonic, ExactlyOne}
 use Rattle.ps_model.specs.SeriesRing.{SeriesRing, ring, degree, Poly}
-use Rattle.ps_model.specs.Factors.{total_times, product_of, root_power, root_powers, IsFactorable, IsFactorList}
-use Rattle.ps_model.specs.Tree.{formal_degree, has_y}
-use Rattle.ps_model.specs.Value.{variable, IsValue}
-use Rattle.ps_model.specs.Job.{job_ring, DividesByY, NotMonic, NotAUnit, RootsMismatch, IsLeast}
-use Rattle.ps_model.specs.Job.{DifferAt, IsValidJob, IsFactors}
-use Rattle.ps_model.specs.Divisions.{IsDivisor, IsByY, Fails, DividesByUnits}
+use Rattle.ps_model.specs.Factors.{root_power, root_powers, IsFactorable}
+use Rattle.ps_model.specs.Tree.{formal_degree}
+use Rattle.ps_model.specs.Value.{variable}
+use Rattle.ps_model.specs.Lead.{lead_in, IsMonicInput}
+use Rattle.ps_model.specs.Job.{job_ring, RootsMismatch, DifferAt, IsFactors}
 use Rattle.ps_model.specs.AcceptedJob.{IsLawfulJob}
 use Rattle.ps_model.proofs.Coefficients.{same_coefficients}
-use Rattle.ps_model.proofs.RingLaws.{one-product}
+use Rattle.ps_model.proofs.KeptTerms.{kept_terms-scaled}
 use Rattle.ps_model.proofs.Truncations.{truncated-zero}
 use Rattle.ps_model.proofs.Homogeneous.{IsHomogeneous, homogeneous-one, homogeneous-product, homogeneous-power}
 use Rattle.ps_model.proofs.ShiftDegrees.{homogeneous-linear}
 use Rattle.ps_model.proofs.Origin.{key_is-y, coefficient-above}
-use Rattle.ps_model.proofs.Factors.{truncated-again, factors}
-use Rattle.ps_model.proofs.UnitsDecided.{number_stable, polynomial_stable, unit_stable, gcd_exists}
-use Rattle.ps_model.proofs.TopTerms.{top-monic}
-use Rattle.ps_model.proofs.TreeValues.{variable_flat, value_flat, value_within, value-truncated}
-use Rattle.ps_model.proofs.TreeLeads.{value_powers, value_top}
-use Rattle.ps_model.proofs.TreeDivisions.{tree_value}
-use Rattle.ps_model.proofs.JobRoots.{valid_degree, lawful_apart}
-use Rattle.ps_model.proofs.JobFactors.{same_factors}
-
-not_true : (b : Bool) → (b ≡ true → ⊥) → b ≡ false
-not_true true h = absurd (h refl)
-not_true false h = refl
-
--- where nothing is the least, nothing is there
-module _ (P : ℕ → Type 0) (none : (k : ℕ) → IsLeast P k → ⊥) where
-  at_least : (n k : ℕ) → (k < n → ⊥) → n ≤ k
-  at_least n k h = omega arith
-
-  none_below : (n k : ℕ) → k < n → P k → ⊥
-  none_below zero k lt here = absurd (omega arith)
-  none_below (suc n) k lt here =
-      none k (here, λ i other. at_least k i (λ less. none_below n i (omega arith) other))
-
-  pub no_least : (k : ℕ) → P k → ⊥
-  no_least k here = none_below (suc k) k (omega arith) here
+use Rattle.ps_model.proofs.Factors.{truncated-again, constant_flat, factors}
+use Rattle.ps_model.proofs.UnitsDecided.{number_stable}
+use Rattle.ps_model.proofs.TreeValues.{value-truncated}
+use Rattle.ps_model.proofs.YCoefficients.{y_coefficient-truncated}
+use Rattle.ps_model.proofs.MonicInputs.{one_input, input_monic, input_origin}
+use Rattle.ps_model.proofs.InputValues.{no_least, valid_value}
+use Rattle.ps_model.proofs.JobRoots.{valid_degree, valid_input, lawful_apart, lawful_lead}
+use Rattle.ps_model.proofs.JobFactors.{list_factors, same_factors}
 
 module _ (R : Ring) where
   -- polynomials of degree 0 are equal where they have the same coefficients at the powers of Y
@@ -77,92 +56,78 @@ module _ (R : Ring) where
       ≡ root_powers {R = R} roots
   root_powers_flat roots = truncated-zero R R.degree _ ∙ root_powers_part roots
 
+  scaled_powers_flat : (c : ℕ) (roots : List Root) → truncated R R.degree 0 (scaled R c (root_powers {R = R} roots))
+      ≡ scaled R c (root_powers {R = R} roots)
+  scaled_powers_flat c roots = cut ∙ ap (scaled R c) (root_powers_flat roots)
+    where
+      cut : truncated R R.degree 0 (scaled R c (root_powers {R = R} roots))
+          ≡ scaled R c (truncated R R.degree 0 (root_powers {R = R} roots))
+      cut = unfold truncated in kept_terms-scaled R _ c _
+
 module _ (job : JobData) where
   abbrev S : SeriesRing
   S = job_ring job
 
-  module _ (valid : IsValidJob job) where
-    -- no division by Y
-    pub valid_without_y : (k : ℕ) → IsByY job.expr k → ⊥
-    valid_without_y = no_least (IsByY job.expr) (λ k least. valid (DividesByY k) least)
-
-    -- no division fails
-    pub valid_divisions : (k c : ℕ) → Fails S job.expr k c → ⊥
-    valid_divisions k c fails = no_least (λ k. (c : ℕ) × Fails S job.expr k c)
-        (λ k least. let gcd = gcd_exists least.0.0 job.modulus in
-        valid (NotAUnit k least.0.0 gcd.0) (least.0.1, least, gcd.1)) k (c, fails)
-
+  module _ (ok : IsLawfulJob job) where
     -- at the origin the coefficients differ nowhere
-    pub valid_agrees : (p : ℕ) → DifferAt job p → ⊥
-    valid_agrees = no_least (DifferAt job) (λ p least. valid (RootsMismatch p least.0.0 least.0.1)
+    lawful_agrees : (p : ℕ) → DifferAt job p → ⊥
+    lawful_agrees = no_least (DifferAt job) (λ p least. ok.valid (RootsMismatch p least.0.0 least.0.1)
         (least.0.2, least))
 
-  module _ (ok : IsLawfulJob job) where
-    lawful_without_y : (k : ℕ) (d : Expr) → IsDivisor job.expr k d → has_y d ≡ false
-    lawful_without_y k d divisor = not_true (has_y d) (λ e. valid_without_y ok.valid k (d, divisor, e))
+    -- exactly one monic input
+    pub lawful_input : (D : ℕ) → ExactlyOne (IsMonicInput S D job.expr)
+    lawful_input D = one_input S D job.expr (lawful_lead job ok)
+        (valid_value S job.expr (valid_input job ok.valid) job.n ok.tree D)
 
-    pub lawful_divisions : DividesByUnits S (variable S) job.expr
-    lawful_divisions = record {
-      without_y = lawful_without_y;
-      no_power = λ k D d v divisor is. value_flat S (variable S) (variable_flat S) D d v
-          (lawful_without_y k d divisor) is;
-      units = λ k d v divisor is. unit_stable S.modulus _
-          (λ not_unit. valid_divisions ok.valid k _ (d, divisor, v, is, refl, not_unit));
-    }
+    module _ (D : ℕ) (q : Poly S) (is : IsMonicInput S D job.expr q) where
+      pub lawful_monic : IsMonic (formal_degree job.expr) q
+      lawful_monic = input_monic S job.n D job.expr q ok.tree (lawful_lead job ok) is
 
-    module _ (D : ℕ) (F : Poly S) (is : IsValue S D job.expr F) where
-      -- the value is monic
-      pub lawful_monic : IsMonic (total_times job.roots) F
-      lawful_monic = polynomial_stable (ring S) _ _ (λ ne. ok.valid NotMonic
-          (λ lead. ne (subst (λ k. IsMonic k F) (valid_degree job ok.valid)
-          (top-monic (ring S) (formal_degree job.expr) F (value_powers S (variable S)
-          (variable_flat S) D job.n job.expr F ok.tree is)
-          (value_top S (variable S) (variable_flat S) D job.n job.expr 1 F ok.tree lead is)))))
-
-      -- and at the origin the product of the root powers
-      pub lawful_origin : truncated (ring S) (degree S) 0 F ≡ root_powers {R = ring S} job.roots
-      lawful_origin = same_at_origin (ring S) _ _ (truncated-again (ring S) (degree S) 0 F)
-          (root_powers_flat (ring S) job.roots)
-          (λ j. number_stable _ _ (λ ne. valid_agrees ok.valid j (
+      -- at the origin the value is the lead's constant term times the product of the root powers
+      value_origin : truncated (ring S) (degree S) 0 is.value
+          ≡ scaled (ring S) (coefficient (ring S) (lead_in S job.expr is.value) (ring S).origin)
+          (root_powers {R = ring S} job.roots)
+      value_origin = same_at_origin (ring S) _ _ (truncated-again (ring S) (degree S) 0 is.value)
+          (scaled_powers_flat (ring S) _ job.roots)
+          (λ j. number_stable _ _ (λ ne. lawful_agrees j (
             _,
             _,
             (
-              truncated (ring S) (degree S) 0 F,
-              value-truncated S (variable S) 0 D
-                  (omega arith) job.expr F is,
+              truncated (ring S) (degree S) 0 is.value,
+              value-truncated S (variable S) 0 D (omega arith) job.expr is.value is.is_value,
               refl,
-              refl,
+              ap (λ c. coefficient (ring S) (scaled (ring S) c (root_powers {R = ring S} job.roots)) ((ring S).y j))
+                  lead_there,
             ),
             ne,
           )))
+        where
+          lead_there : coefficient (ring S) (lead_in S job.expr is.value) (ring S).origin
+              ≡ coefficient (ring S) (lead_in S job.expr (truncated (ring S) (degree S) 0 is.value)) (ring S).origin
+          lead_there = sym (ap (λ l. coefficient (ring S) l (ring S).origin)
+              (y_coefficient-truncated (ring S) 0 (formal_degree job.expr) is.value
+              ∙ truncated-zero (ring S) (degree S) _)
+              ∙ constant_flat (ring S) _)
 
-      pub lawful_factorable : IsFactorable F job.roots
+      pub lawful_origin : truncated (ring S) (degree S) 0 q ≡ root_powers {R = ring S} job.roots
+      lawful_origin = input_origin S D job.expr q (root_powers {R = ring S} job.roots) (lawful_lead job ok) is
+          value_origin
+
+      pub lawful_factorable : IsFactorable q job.roots
       lawful_factorable = record {
-        monic = lawful_monic;
+        monic = subst (λ k. IsMonic k q) (valid_degree job ok.valid) lawful_monic;
         at_origin = lawful_origin;
         apart = lawful_apart job ok;
-      }
-
-      -- a list of factors of the value is one of the job
-      pub list_factors : (fs : List (Poly S)) → IsFactorList D F job.roots fs → IsFactors job D fs
-      list_factors fs list = record {
-        value = F;
-        is_value = is;
-        are_factors = record {
-          each = list.each;
-          product_is = ap (truncated (ring S) (degree S) D) (one-product (ring S) (product_of fs)) ∙ list.product_is
-              ∙ value_within S (variable S) D job.expr F is;
-        };
       }
 
     -- a lawful job has exactly one list of factors
     pub lawful_factors : (D : ℕ) → ExactlyOne (IsFactors job D)
     lawful_factors D =
-        let v = tree_value S (variable S) job.n D job.expr ok.tree lawful_divisions in
-        let fs = factors (ring S) D job.roots v.one_value (lawful_factorable D v.one_value v.meets) in
+        let q = lawful_input D in
+        let fs = factors (ring S) D job.roots q.one_value (lawful_factorable D q.one_value q.meets) in
+        let are = list_factors job D q.one_value fs.one_value q.meets fs.meets in
         record {
           one_value = fs.one_value;
-          meets = list_factors D v.one_value v.meets fs.one_value fs.meets;
-          only = λ gs are. same_factors job ok D gs fs.one_value are
-              (list_factors D v.one_value v.meets fs.one_value fs.meets);
+          meets = are;
+          only = λ gs others. same_factors job ok D gs fs.one_value others are;
         }

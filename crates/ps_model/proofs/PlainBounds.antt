@@ -305,6 +305,10 @@ small_twice = small_powers 6 6 (omega arith) (omega arith)
 pub small_thrice : IsInRange (add_keys 8 small_key (add_keys 8 small_key (add_keys 8 small_key (y_key 8 0))))
 small_thrice = small_powers 9 9 (omega arith) (omega arith)
 
+pub small_four_times : IsInRange (add_keys 8 small_key (add_keys 8 small_key (add_keys 8 small_key
+    (add_keys 8 small_key (y_key 8 0)))))
+small_four_times = small_powers 12 12 (omega arith) (omega arith)
+
 pub small_within : (x z y : ℕ) → x ≤ 3 → z ≤ 3 → y ≤ 3 → (k : Key 8)
     → k ≡ record { powers = (x, (z, no_powers 6)); y = y } → IsWithin k small_key
 small_within x z y h f g k e =

@@ -34,11 +34,11 @@ use Rattle.ps_model.specs.FiniteMaps.{product_maps}
 use Rattle.ps_model.specs.Keys.{add_keys, y_key}
 use Rattle.ps_model.specs.SeriesRing.{ring, Poly}
 use Rattle.ps_model.specs.Notation.{power, product, linear}
+use Rattle.ps_model.specs.Lead.{lead_in}
 use Rattle.ps_model.specs.Job.{series_ring, job_ring, AreFactorsOf}
 use Rattle.ps_model.specs.PlainLists.{IsInRange, HasProductsInRange, plain_degree, cut_map}
 use Rattle.ps_model.specs.PlainPolynomial.{plain_polynomial, HasValuesBelow, greatest_key, total_powers}
 use Rattle.ps_model.specs.PlainPolynomial.{IsWithin, HasKeysWithin}
-use Rattle.ps_model.proofs.RingLaws.{one-product}
 use Rattle.ps_model.proofs.Factors.{truncated-product_right}
 use Rattle.ps_model.proofs.PlainPolynomials.{one_polynomial, linear_polynomial, product_polynomial, cut_polynomial}
 use Rattle.ps_model.proofs.PlainPolynomials.{values_collected, values_retained}
@@ -211,7 +211,8 @@ pub record IsProductOf (m : ℕ) (ws : List ℕ) (d : ℕ) (fs : List Map) (p : 
   pub within : HasKeysWithin (total_powers fs) p
   pub residues : HasValuesBelow m p
 
-product_none : (m : ℕ) (ws : List ℕ) (d : ℕ) → 2 ≤ m → (one p : Map) → one ≡ collected (key_compare 8) m ((y_key 8 0, 1) ∷ []) →
+product_none : (m : ℕ) (ws : List ℕ) (d : ℕ) → 2 ≤ m → (one p : Map)
+    → one ≡ collected (key_compare 8) m ((y_key 8 0, 1) ∷ []) →
     p ≡ cut_map ws d one
     → IsProductOf m ws d [] p
 product_none m ws d two one p e cut = record {
@@ -228,7 +229,8 @@ product_none m ws d two one p e cut = record {
 pub product_begun : (m : ℕ) (ws : List ℕ) (d : ℕ) → 2 ≤ m → (fs : List Map) (one p : Map) →
     one ≡ collected (key_compare 8) m ((y_key 8 0, 1) ∷ [])
     → p ≡ cut_map ws d one → IsProductOf m ws d (drop (length fs) fs) p
-product_begun m ws d two fs one p e cut = subst (λ l. IsProductOf m ws d l p) (sym (drop_all (length fs) fs (omega arith)))
+product_begun m ws d two fs one p e cut = subst (λ l. IsProductOf m ws d l p) (sym (drop_all (length fs) fs
+    (omega arith)))
     (product_none m ws d two one p e cut)
 
 next_drop : (fs : List Map) (i : ℕ) (f : Map) → f ≡ get_or fs (i - 1) f → 0 < i → i ≤ length fs
@@ -238,7 +240,8 @@ next_drop fs i f is some le = drop_more fs (i - 1) f (omega arith) ∙ (λ j. sy
     whole : (i - 1) + 1 ≡ i
     whole = omega arith
 
-pub product_fits : (m : ℕ) (ws : List ℕ) (d : ℕ) (fs : List Map) (i : ℕ) (f p : Map) → f ≡ get_or fs (i - 1) f → 0 < i → i ≤ length fs
+pub product_fits : (m : ℕ) (ws : List ℕ) (d : ℕ) (fs : List Map) (i : ℕ) (f p : Map) → f ≡ get_or fs (i - 1) f → 0 < i
+    → i ≤ length fs
     → IsInRange (total_powers fs) → IsProductOf m ws d (drop i fs) p → HasProductsInRange (entries f) (entries p)
 product_fits m ws d fs i f p is some le fits h = products_in_range (greatest_key f) (total_powers (drop i fs)) f p
     (greatest_within f) h.within
@@ -246,7 +249,8 @@ product_fits m ws d fs i f p is some le fits h = products_in_range (greatest_key
     (subst (λ l. IsInRange (total_powers l)) (next_drop fs i f is some le)
     (in_range_within (total_powers (drop (i - 1) fs)) (total_powers fs) (total_powers-drop (i - 1) fs) fits)))
 
-pub product_more : (m : ℕ) (ws : List ℕ) (d : ℕ) → 2 ≤ m → (fs : List Map) (i : ℕ) (f p next q : Map) → f ≡ get_or fs (i - 1) f → 0 < i
+pub product_more : (m : ℕ) (ws : List ℕ) (d : ℕ) → 2 ≤ m → (fs : List Map) (i : ℕ) (f p next q : Map)
+    → f ≡ get_or fs (i - 1) f → 0 < i
     → i ≤ length fs → IsProductOf m ws d (drop i fs) p → next ≡ product_maps (key_compare 8) (add_keys 8) m f p
     → q ≡ cut_map ws d next → IsProductOf m ws d (drop (i - 1) fs) q
 product_more m ws d two fs i f p next q read some le h made cut = subst (λ l. IsProductOf m ws d l q)
@@ -268,7 +272,8 @@ product_more m ws d two fs i f p next q read some le h made cut = subst (λ l. I
           (values_collected m two (products (add_keys 8) (entries f) (entries p)))));
     })
 
-pub product_all : (m : ℕ) (ws : List ℕ) (d : ℕ) (fs : List Map) (i : ℕ) (p : Map) → i ≤ 0 → IsProductOf m ws d (drop i fs) p →
+pub product_all : (m : ℕ) (ws : List ℕ) (d : ℕ) (fs : List Map) (i : ℕ) (p : Map) → i ≤ 0
+    → IsProductOf m ws d (drop i fs) p →
     IsProductOf m ws d fs p
 product_all m ws d fs i p h is = subst (λ j. IsProductOf m ws d (drop j fs) p) none is
   where
@@ -287,19 +292,17 @@ list_refused job d value fs r e h = refused r e (λ a. h a.each)
 
 pub list_accepted : (job : JobData) (d : ℕ) (value : Poly (job_ring job)) (fs : List (Poly (job_ring job))) (b r : Bool)
     → b ≡ true → (IsTrue b → EachIsFactor d job.roots fs)
-    → (IsTrue r → truncated d (product_of fs) ≡ value) × (truncated d (product_of fs) ≡ value → IsTrue r)
+    → (IsTrue r → truncated d (product (lead_in (job_ring job) job.expr value) (product_of fs)) ≡ value)
+    × (truncated d (product (lead_in (job_ring job) job.expr value) (product_of fs)) ≡ value → IsTrue r)
     → (IsTrue r → AreFactorsOf job d value fs) × (AreFactorsOf job d value fs → IsTrue r)
 list_accepted job d value fs b r e each h = (
-  λ t. record {
-    each = each e;
-    product_is = ap (truncated d) (one-product (ring (job_ring job)) (product_of fs)) ∙
-        h.0 t;
-  },
-  λ a. h.1 (ap (truncated d) (sym (one-product (ring (job_ring job)) (product_of fs))) ∙ a.product_is),
+  λ t. record { each = each e; product_is = h.0 t },
+  λ a. h.1 a.product_is,
 )
 
 -- the factor tested at a place
-pub tested_at : (m : ℕ) (ws : List ℕ) (d i : ℕ) (fs : List Map) (f : Map) (r : Root) (b : Bool) → i < length fs → f ≡ get_or fs i f
+pub tested_at : (m : ℕ) (ws : List ℕ) (d i : ℕ) (fs : List Map) (f : Map) (r : Root) (b : Bool) → i < length fs
+    → f ≡ get_or fs i f
     → (IsTrue b → IsFactor d r (plain_polynomial m ws f)) × (IsFactor d r (plain_polynomial m ws f) → IsTrue b)
     → (g : Poly (series_ring m ws))
     → (IsTrue b → IsFactor d r (get_or (map (plain_polynomial m ws) fs) i g))
@@ -307,17 +310,20 @@ pub tested_at : (m : ℕ) (ws : List ℕ) (d i : ℕ) (fs : List Map) (f : Map) 
 tested_at m ws d i fs f r b lt read h g = subst (λ p. (IsTrue b → IsFactor d r p) × (IsFactor d r p → IsTrue b))
     (ap (plain_polynomial m ws) read ∙ sym (get_or-map (plain_polynomial m ws) fs i f g lt)) h
 
-pub one_fails : (m : ℕ) (ws : List ℕ) (d i : ℕ) (rs : List Root) (fs : List Map) (f : Map) (r : Root) (b : Bool) → i < length rs
+pub one_fails : (m : ℕ) (ws : List ℕ) (d i : ℕ) (rs : List Root) (fs : List Map) (f : Map) (r : Root) (b : Bool)
+    → i < length rs
     → length rs ≡ length fs → f ≡ get_or fs i f → b ≡ false
     → (IsTrue b → IsFactor d (get_or rs i r) (plain_polynomial m ws f))
     × (IsFactor d (get_or rs i r) (plain_polynomial m ws f) → IsTrue b)
     → (IsTrue false → EachIsFactor d rs (map (plain_polynomial m ws) fs))
     × (EachIsFactor d rs (map (plain_polynomial m ws) fs) → IsTrue false)
-one_fails m ws d i rs fs f r b lt long read fails h = refused b fails (λ each. (tested_at m ws d i fs f (get_or rs i r) b
+one_fails m ws d i rs fs f r b lt long read fails h = refused b fails (λ each. (tested_at m ws d i fs f
+    (get_or rs i r) b
     (omega arith) read h (plain_polynomial m ws f)).1
     ((each_at d rs (map (plain_polynomial m ws) fs) each).1 i r (plain_polynomial m ws f) lt))
 
-pub one_passes : (m : ℕ) (ws : List ℕ) (d i : ℕ) (rs : List Root) (fs : List Map) (f : Map) (s : Root) (b : Bool) → i < length rs
+pub one_passes : (m : ℕ) (ws : List ℕ) (d i : ℕ) (rs : List Root) (fs : List Map) (f : Map) (s : Root) (b : Bool)
+    → i < length rs
     → length rs ≡ length fs → f ≡ get_or fs i f → b ≡ true
     → (IsTrue b → IsFactor d (get_or rs i s) (plain_polynomial m ws f))
     × (IsFactor d (get_or rs i s) (plain_polynomial m ws f) → IsTrue b)
@@ -354,7 +360,8 @@ other_lengths m ws d rs fs h = (
 )
 
 -- a factor is one that passes all three tests
-pub factor_tested : {E : Type 0} (m : ℕ) (ws : List ℕ) (d : ℕ) (r : Root) (f : Map) (x y : Bool) (q : Result Bool E) → 2 ≤ m →
+pub factor_tested : {E : Type 0} (m : ℕ) (ws : List ℕ) (d : ℕ) (r : Root) (f : Map) (x y : Bool) (q : Result Bool E)
+    → 2 ≤ m →
     HasValuesBelow m f
     → x ≡ true → (IsTrue x → IsMonic r.times (plain_polynomial m ws f)) ×
     (IsMonic r.times (plain_polynomial m ws f) → IsTrue x)
@@ -362,8 +369,10 @@ pub factor_tested : {E : Type 0} (m : ℕ) (ws : List ℕ) (d : ℕ) (r : Root) 
     → (IsTrue y → truncated 0 (plain_polynomial m ws f) ≡ root_power r)
     × (truncated 0 (plain_polynomial m ws f) ≡ root_power r → IsTrue y)
     → IfOk q (λ b. (n : ℕ) → 2 ≤ n → HasValuesBelow n f
-    → (IsTrue b → HasNoDegreeAbove d (plain_polynomial n ws f)) × (HasNoDegreeAbove d (plain_polynomial n ws f) → IsTrue b))
-    → IfOk q (λ b. (IsTrue b → IsFactor d r (plain_polynomial m ws f)) × (IsFactor d r (plain_polynomial m ws f) → IsTrue b))
+    → (IsTrue b → HasNoDegreeAbove d (plain_polynomial n ws f)) × (HasNoDegreeAbove d (plain_polynomial n ws f)
+    → IsTrue b))
+    → IfOk q (λ b. (IsTrue b → IsFactor d r (plain_polynomial m ws f)) × (IsFactor d r (plain_polynomial m ws f)
+    → IsTrue b))
 factor_tested m ws d r f x y (Ok b) two below ex hx ey hy h = (
   λ t. record { monic = hx.0 ex; at_origin = hy.0 ey; within = (h m two below).0 t },
   λ k. (h m two below).1 k.within,

@@ -74,7 +74,7 @@ module _ (R : Ring) where
   maps_equal : (p q : FinMap R.compare ℕ) → HasResidues R p → HasResidues R q → of_map R p ≡ of_map R q → p ≡ q
   maps_equal p q hp hq e = sym (map-of_map R p hp) ∙ ap (λ x. x.map) e ∙ map-of_map R q hq
 
-modulus_is : (m : ℕ) → 2 ≤ m → m ≡ max 2 m
+pub modulus_is : (m : ℕ) → 2 ≤ m → m ≡ max 2 m
 modulus_is m two = omega arith
 
 module _ (m : ℕ) (ws : List ℕ) (two : 2 ≤ m) where

@@ -232,7 +232,8 @@ degree_begun ws t = zero-add _
 pub degree_more : (ws xs : List ℕ) (i degree whole w x : ℕ) → i < 8 → w ≡ max 1 (get_or ws i 0) → x ≡ get_or xs i 0
     → degree + later_degree ws xs i (8 - i) ≡ whole
     → (degree + w * x) + later_degree ws xs (i + 1) (8 - (i + 1)) ≡ whole
-degree_more ws xs i degree whole w x lt ew ex is = (λ j. (degree + ew j * ex j) + later_degree ws xs (next j) (8 - next j))
+degree_more ws xs i degree whole w x lt ew ex is = (λ j. (degree + ew j * ex j) + later_degree ws xs (next j)
+    (8 - next j))
     ∙ omega (arith, later_degree-next ws xs i (8 - suc i), is, ap (later_degree ws xs i) left)
   where
     next : i + 1 ≡ suc i

@@ -16,7 +16,7 @@ use Rattle.ps_model.proofs.Factors.{truncated-again, truncated-lower, truncated-
 
 module _ (R : Ring) (b : Polynomial R) (flat : truncated R R.y_degree 0 b ≡ b)
     (unit : IsUnit R.modulus (coefficient R b R.origin)) (D : ℕ) where
-  b_origin : homogeneous_part R R.degree 0 b ≡ monomial R (coefficient R b R.origin) R.origin
+  pub b_origin : homogeneous_part R R.degree 0 b ≡ monomial R (coefficient R b R.origin) R.origin
   b_origin = ap (homogeneous_part R R.degree 0) (sym flat ∙ truncated-zero R R.y_degree b) ∙ commuted ∙ constant_is R b
     where
       commuted : homogeneous_part R R.degree 0 (homogeneous_part R R.y_degree 0 b) ≡ homogeneous_part R R.y_degree 0

@@ -31,7 +31,7 @@ module _ (R : Ring) where
   y_zero = ap (monomial R 1) R.y-zero
 
   -- division by Y^0
-  down-zero : (p : Polynomial R) → down R 0 p ≡ p
+  pub down-zero : (p : Polynomial R) → down R 0 p ≡ p
   down-zero p = ap (down R 0) (sym (ap (λ t. product R t p) y_zero ∙ one-product R p)) ∙ down-up R 0 p
 
   down-nothing : (j : ℕ) → down R j (nought R) ≡ nought R
@@ -46,7 +46,7 @@ module _ (R : Ring) where
   unfolding homogeneous_part
   part-nothing d r = kept_terms-zero R _
 
-  slice_at-swap : (r j : ℕ) (p : Polynomial R) → slice_at R r j p
+  pub slice_at-swap : (r j : ℕ) (p : Polynomial R) → slice_at R r j p
       ≡ down R j (homogeneous_part R R.degree r (homogeneous_part R R.y_degree j p))
   slice_at-swap r j p = slice_at-down R r j p ∙ ap (down R j) (parts_swap r j p)
 
@@ -109,7 +109,7 @@ module _ (R : Ring) where
       (sym (truncated-zero R R.degree p) ∙ hp ∙ sym (y_degree_y R k))
       ∙ ap (down R j) (homogeneous_part-other R R.y_degree j k _ h) ∙ down-nothing j
 
-  y_degree-down : (j : ℕ) (p : Polynomial R) → homogeneous_part R R.y_degree 0 (down R j p)
+  pub y_degree-down : (j : ℕ) (p : Polynomial R) → homogeneous_part R R.y_degree 0 (down R j p)
       ≡ down R j (homogeneous_part R R.y_degree j p)
   unfolding homogeneous_part
   y_degree-down j p = kept_terms-down R _ (λ x. R.y_degree x == j) j p (λ x le. ap (λ n. n == 0) (y_degree-lower R j x)

@@ -22,7 +22,7 @@ use Rattle.ps_model.proofs.Existence.{homogeneous_part_y_degree}
 
 module _ (R : Ring) where
   -- of entries with one power of Y
-  without_y-down : (j : ℕ) (p : Polynomial R)
+  pub without_y-down : (j : ℕ) (p : Polynomial R)
       → without_y R (homogeneous_part R R.y_degree j p) ≡ down R j (homogeneous_part R R.y_degree j p)
   unfolding without_y homogeneous_part lower
   without_y-down j p = same_values R _ _ (λ f. simp (linear_form-image, linear_form-monomial, one-mul)

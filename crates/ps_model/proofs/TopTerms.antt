@@ -174,7 +174,7 @@ module _ (R : Ring) where
   pub top-monic : (K : ℕ) (p : Polynomial R) → HasNoPowerAbove K p → HasTop K 1 p → IsMonic K p
   top-monic K p hp tp = monic_from R K p (sym (truncated-below R R.y_degree K p) ∙ hp) tp
 
-  at_top : (K : ℕ) (p : Polynomial R) (k : R.Key) → R.y_degree k ≡ K
+  pub at_top : (K : ℕ) (p : Polynomial R) (k : R.Key) → R.y_degree k ≡ K
       → coefficient R (homogeneous_part R R.y_degree K p) k ≡ coefficient R p k
   unfolding homogeneous_part
   at_top K p k e = coefficient-kept_terms R _ p k ∙ ap (λ b. cond b (coefficient R p k) 0) (eq-eqb _ _ e)

@@ -1,4 +1,4 @@
--- The text of a block: each factor's coefficients, by falling power of Y.
+-- The text of a block: the lead where it is shown, and each factor's coefficients, by falling power of Y.
 --     power_text name p      *NAME, *NAME^P from the second power on, and nothing for the power 0
 --     term_text names t      a coefficient and the powers of its monomial
 --     terms_text names ts      terms joined by plus signs; 0 where there are none
@@ -6,9 +6,11 @@
 --         powers of the first variable, then of the next
 --     printed_terms S p j D      those of the degrees 0 to D, one degree after another
 --     power_line S names D p j      the line of the coefficient of Y^j
---     block_text S names roots fs D      the block: the precision, and for each root its factor's
---         lines from Y^times to Y^0
+--     lead_text S names D lead      the line of the lead, a polynomial without Y; nothing for None
+--     block_text S names lead roots fs D      the block: the precision, the lead, and for each root
+--         its factor's lines from Y^times to Y^0
 use Rattle.std.specs.Prelude.{ℕ, zero, suc, ◌==◌, ◌&&◌, List, [], ◌∷◌, ◌++◌, filter, codes, decimal}
+use Rattle.std.specs.Prelude.{Option, Some, None}
 use Rattle.std.specs.List.{flat_map}
 use Rattle.ps_model.specs.declared.job.Root.{Root}
 use Rattle.ps_model.specs.Keys.{Key, numbers}
@@ -63,5 +65,10 @@ module _ (S : SeriesRing) where
     factor_texts i (root ∷ roots) [] = []
     factor_texts i (root ∷ roots) (f ∷ fs) = factor_text i root f ++ factor_texts (suc i) roots fs
 
-  abbrev pub block_text : List (List ℕ) → List Root → List (Poly S) → ℕ → List ℕ
-  block_text names roots fs D = codes "precision " ++ decimal D ++ newline ++ factor_texts names D 1 roots fs
+    abbrev pub lead_text : Option (Poly S) → List ℕ
+    lead_text None = []
+    lead_text (Some l) = codes "lead: " ++ terms_text names (printed_terms l 0 D) ++ newline
+
+  abbrev pub block_text : List (List ℕ) → Option (Poly S) → List Root → List (Poly S) → ℕ → List ℕ
+  block_text names lead roots fs D =
+      codes "precision " ++ decimal D ++ newline ++ lead_text names D lead ++ factor_texts names D 1 roots fs

@@ -304,3 +304,48 @@ halved_terms = ((1, [], 2) ∷ (4, 1 ∷ [], 0) ∷ []) ∷ []
 
 abbrev pub halved_factors : List (Poly (job_ring halved_job))
 halved_factors = all_written (job_ring halved_job) halved_terms
+
+-- 3*Y + x
+abbrev pub three_y_plus_x : Expr
+three_y_plus_x = added (multiplied (number 3) y) x
+
+-- 2*Y + 1
+abbrev pub two_y_plus_one : Expr
+two_y_plus_one = added (multiplied (number 2) y) (number 1)
+
+-- (2 + x)*Y^2 + x
+abbrev pub series_times_square : Expr
+series_times_square = added (multiplied (added (number 2) x) (raised y 2)) x
+
+-- the job of 2*Y + 1 modulo 7, whose root is 3, and its factor Y + 4
+abbrev pub two_job : JobData
+two_job = job 7 two_y_plus_one (root 3 1 ∷ [])
+
+abbrev pub two_terms : List (List (ℕ × List ℕ × ℕ))
+two_terms = ((1, [], 1) ∷ (4, [], 0) ∷ []) ∷ []
+
+abbrev pub two_factors : List (Poly (job_ring two_job))
+two_factors = all_written (job_ring two_job) two_terms
+
+-- the job of (2 + x)*Y^2 + x modulo 7, whose root is 0, twice; its lead, and its factor up to degree 2
+abbrev pub square_job : JobData
+square_job = job 7 series_times_square (root 0 2 ∷ [])
+
+abbrev pub two_and_x : List (ℕ × List ℕ × ℕ)
+two_and_x = (2, [], 0) ∷ (1, 1 ∷ [], 0) ∷ []
+
+abbrev pub square_terms : List (List (ℕ × List ℕ × ℕ))
+square_terms = ((1, [], 2) ∷ (4, 1 ∷ [], 0) ∷ (5, 2 ∷ [], 0) ∷ []) ∷ []
+
+abbrev pub square_factors : List (Poly (job_ring square_job))
+square_factors = all_written (job_ring square_job) square_terms
+
+-- the job of Y / (1 - x) modulo 7, whose root is 0; its lead up to degree 2, and its factor
+abbrev pub quotient_job : JobData
+quotient_job = job 7 y_over_series (root 0 1 ∷ [])
+
+abbrev pub three_ones : List (ℕ × List ℕ × ℕ)
+three_ones = (1, [], 0) ∷ (1, 1 ∷ [], 0) ∷ (1, 2 ∷ [], 0) ∷ []
+
+abbrev pub quotient_factors : List (Poly (job_ring quotient_job))
+quotient_factors = all_written (job_ring quotient_job) (((1, [], 1) ∷ []) ∷ [])

@@ -7,13 +7,11 @@
 --     IsFault job f      this is wrong with the job
 --     IsFirstFault job f      it is, and nothing that comes earlier in the order
 --     IsValidJob job      nothing is wrong with it
---     leading_series job D      the coefficient of Y ^ formal_degree that the product of the
---         factors is multiplied by: 1
 --     AreFactorsOf job D value fs      monic factors, at the origin the root powers, whose product
---         up to degree D is the value
+--         times the value's lead is the value, up to degree D
 --     IsFactors job D fs      the same of the value of the job's tree: the list of factors of
 --         Hensel's lemma
-use Rattle.std.specs.Prelude.{◌≡◌, ◌≢◌, ℕ, ◌+◌, ◌-◌, ◌%◌, ◌<◌, ◌≤◌, ◌⊎◌, min, max, Some, List}
+use Rattle.std.specs.Prelude.{◌≡◌, ◌≢◌, ℕ, ◌+◌, ◌-◌, ◌%◌, ◌<◌, ◌≤◌, ◌⊎◌, max, Some, List}
 use Rattle.std.specs.Prelude.{slice_get}
 use Rattle.std.specs.Int.{IsGcd}
 use Rattle.std.proofs.Common.{arith}
@@ -21,13 +19,14 @@ use Rattle.ps_model.specs.declared.job.JobData.{JobData}
 use Rattle.ps_model.specs.declared.job.Root.{Root}
 use Rattle.ps_model.specs.Keys.{weights_from, y_key}
 use Rattle.ps_model.specs.KeyLaws.{weights_from-positive}
-use Rattle.ps_model.specs.Notation.{coefficient, one, product, truncated}
+use Rattle.ps_model.specs.Notation.{coefficient, constant_term, scaled, product, truncated}
 use Rattle.ps_model.specs.Bounds.{IsUnit}
 use Rattle.ps_model.specs.SeriesRing.{SeriesRing, Poly}
 use Rattle.ps_model.specs.Factors.{total_times, product_of, root_powers, EachIsFactor}
-use Rattle.ps_model.specs.Tree.{formal_degree, node_count}
-use Rattle.ps_model.specs.Value.{IsValue, HasLead}
-use Rattle.ps_model.specs.Divisions.{IsByY, Fails}
+use Rattle.ps_model.specs.Tree.{formal_degree}
+use Rattle.ps_model.specs.Value.{IsValue}
+use Rattle.ps_model.specs.Lead.{lead_in, IsLead}
+use Rattle.ps_model.specs.Input.{InputFault, input_order, IsInputFault, IsLeast, told_count}
 
 pub two_at_least : (m : ℕ) → 2 ≤ max 2 m
 two_at_least m = omega arith
@@ -45,31 +44,23 @@ abbrev pub job_ring : JobData → SeriesRing
 job_ring job = series_ring job.modulus job.weights
 
 pub data Fault : Type 0 where
-  DividesByY : ℕ → Fault
-  TooManyNodes : ℕ → Fault
-  DegreeTooLarge : ℕ → Fault
-  NotMonic : Fault
-  NotAUnit : ℕ → ℕ → ℕ → Fault
+  OfInput : InputFault → Fault
+  LeadNotAUnit : ℕ → ℕ → Fault
   DegreeMismatch : ℕ → ℕ → Fault
   NotApart : ℕ → ℕ → ℕ → ℕ → Fault
   RootsMismatch : ℕ → ℕ → ℕ → Fault
 
 abbrev pub order : Fault → ℕ
-order (DividesByY division) = 1
-order (TooManyNodes count) = 2
-order (DegreeTooLarge degree) = 3
-order NotMonic = 4
-order (NotAUnit division value gcd) = 5
+order (OfInput f) = input_order f
+order (LeadNotAUnit value gcd) = 5
 order (DegreeMismatch degree total) = 6
 order (NotApart first second difference gcd) = 7
 order (RootsMismatch power input roots) = 8
 
-abbrev pub IsLeast : (ℕ → Type 0) → ℕ → Type 0
-IsLeast P k = P k × ((i : ℕ) → P i → k ≤ i)
-
--- a count as it is told, at most 2^32 - 1
-abbrev pub told_count : ℕ → ℕ
-told_count n = min n 4294967295
+-- the lead's constant term
+abbrev pub IsLeadAtOrigin : JobData → ℕ → Type 0
+IsLeadAtOrigin job value =
+    (l : Poly (job_ring job)) × IsLead (job_ring job) 0 job.expr l × (value ≡ constant_term l)
 
 -- the roots i and j, counted from 1, have a difference that is no unit
 abbrev pub IsPairTooNear : JobData → ℕ → ℕ → ℕ → Type 0
@@ -79,25 +70,23 @@ IsPairTooNear job i j difference =
     × (difference ≡ (r.value + (job.modulus - s.value)) % job.modulus)
     × (IsUnit job.modulus difference → ⊥)
 
--- the coefficients of Y ^ power at the origin, of the tree's value and of the product of the root powers
+-- the coefficients of Y ^ power at the origin: of the tree's value, and of the lead's constant term times the
+-- product of the root powers
 abbrev pub AreAtOrigin : JobData → ℕ → ℕ → ℕ → Type 0
 AreAtOrigin job power input roots =
     let S = job_ring job in
-    let expected : Poly S = root_powers job.roots in
+    let powers : Poly S = root_powers job.roots in
     (v : Poly S) × IsValue S 0 job.expr v
-    × (input ≡ coefficient v (y_key S.variables power)) × (roots ≡ coefficient expected (y_key S.variables power))
+    × (input ≡ coefficient v (y_key S.variables power))
+    × (roots ≡ coefficient (scaled (constant_term (lead_in S job.expr v)) powers) (y_key S.variables power))
 
 abbrev pub DifferAt : JobData → ℕ → Type 0
 DifferAt job power = (input : ℕ) × (roots : ℕ) × AreAtOrigin job power input roots × (input ≢ roots)
 
 abbrev pub IsFault : JobData → Fault → Type 0
-IsFault job (DividesByY division) = IsLeast (IsByY job.expr) division
-IsFault job (TooManyNodes count) = (4096 < node_count job.expr) × (count ≡ told_count (node_count job.expr))
-IsFault job (DegreeTooLarge degree) = (32 < formal_degree job.expr) × (degree ≡ told_count (formal_degree job.expr))
-IsFault job NotMonic = HasLead (job_ring job) job.expr 1 → ⊥
-IsFault job (NotAUnit division value gcd) =
-    Fails (job_ring job) job.expr division value × IsLeast (λ k. (c : ℕ) × Fails (job_ring job) job.expr k c) division
-    × IsGcd value job.modulus gcd
+IsFault job (OfInput f) = IsInputFault (job_ring job) job.expr f
+IsFault job (LeadNotAUnit value gcd) =
+    IsLeadAtOrigin job value × (IsUnit (job_ring job).modulus value → ⊥) × IsGcd value (job_ring job).modulus gcd
 IsFault job (DegreeMismatch degree total) =
     (formal_degree job.expr ≢ total_times job.roots)
     × (degree ≡ told_count (formal_degree job.expr)) × (total ≡ told_count (total_times job.roots))
@@ -113,13 +102,10 @@ pub record IsFirstFault (job : JobData) (f : Fault) : Type 0 where
 abbrev pub IsValidJob : JobData → Type 0
 IsValidJob job = (f : Fault) → IsFault job f → ⊥
 
-abbrev pub leading_series : (job : JobData) → ℕ → Poly (job_ring job)
-leading_series job D = one
-
 pub record AreFactorsOf (job : JobData) (D : ℕ) (value : Poly (job_ring job)) (fs : List (Poly (job_ring job))) :
     Type 0 where
   pub each : EachIsFactor D job.roots fs
-  pub product_is : truncated D (product (leading_series job D) (product_of fs)) ≡ value
+  pub product_is : truncated D (product (lead_in (job_ring job) job.expr value) (product_of fs)) ≡ value
 
 pub record IsFactors (job : JobData) (D : ℕ) (fs : List (Poly (job_ring job))) : Type 0 where
   pub value : Poly (job_ring job)

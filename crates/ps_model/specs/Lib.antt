@@ -20,11 +20,15 @@ pub mod Plain
 pub mod Tree
 pub mod Value
 pub mod Divisions
+pub mod Lead
+pub mod Input
 pub mod Job
 pub mod AcceptedJob
 pub mod PlainLists
 pub mod PlainPolynomial
 pub mod BlockText
+pub mod StreamText
+pub mod InputText
 pub mod Examples
 pub mod Names
 pub mod Tokens

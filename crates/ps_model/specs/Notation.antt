@@ -12,6 +12,7 @@
 --     truncated_in_y K p      the entries with no power of Y above K
 --     homogeneous_part r p      the entries of degree r
 --     y_powers_from k p      the entries with Y^k and above
+--     y_coefficient j p      the coefficient of Y^j
 --     slice_at r j p      the homogeneous part of degree r of the coefficient of Y^j
 --     raised j p      Y^j * p
 --     linear c      Y + c
@@ -82,6 +83,9 @@ module _ {R : Ring} where
 
   abbrev pub y_powers_from : ℕ → Polynomial R → Polynomial R
   y_powers_from k p = over.kept_terms R (λ x. nat_le k (R.y_degree x)) p
+
+  abbrev pub y_coefficient : ℕ → Polynomial R → Polynomial R
+  y_coefficient j p = slices.y_coefficient R j p
 
   abbrev pub slice_at : ℕ → ℕ → Polynomial R → Polynomial R
   slice_at r j p = slices.slice_at R r j p

@@ -7,9 +7,11 @@
 --     HasProductsInRange es fs      so does each sum of a key of es and one of fs
 --     added m es p      the formal sum es added to the map p, modulo m
 --     multiplied e es      the formal sum es times the entry e
+--     without_y e      the entry without its power of Y
+--     y_terms k es      the entries with Y^k, without it
 --     plain_degree ws k      the degree by these weights; one that is 0 or missing counts as 1
 --     cut_map ws d p      the entries of degree at most d
-use Rattle.std.specs.Prelude.{◌≡◌, ℕ, ◌+◌, ◌*◌, ◌%◌, ◌^◌, ◌<◌, ◌≤◌, nat_le, List, [], ◌∷◌, map, length}
+use Rattle.std.specs.Prelude.{◌≡◌, ℕ, ◌+◌, ◌*◌, ◌%◌, ◌^◌, ◌<◌, ◌≤◌, ◌==◌, nat_le, List, [], ◌∷◌, map, filter, length}
 use Rattle.std.specs.Prelude.{slice_index_or}
 use Rattle.std.specs.Prelude.{Result, MatchResult}
 use Rattle.std.specs.List.{All}
@@ -48,6 +50,12 @@ added m (e ∷ es) p = put (key_compare 8) (added m es p) e.0 ((e.1 + value_in (
 
 abbrev pub multiplied : Key 8 × ℕ → List (Key 8 × ℕ) → List (Key 8 × ℕ)
 multiplied e es = map (λ f. (add_keys 8 e.0 f.0, e.1 * f.1)) es
+
+abbrev pub without_y : Key 8 × ℕ → Key 8 × ℕ
+without_y e = (record { powers = e.0.powers; y = 0 }, e.1)
+
+abbrev pub y_terms : ℕ → List (Key 8 × ℕ) → List (Key 8 × ℕ)
+y_terms k es = map without_y (filter (λ e. e.0.y == k) es)
 
 unfoldable pub plain_degree : List ℕ → Key 8 → ℕ
 plain_degree ws k = weighted 8 (weights_from 8 ws) k.powers

@@ -1,15 +1,20 @@
 //! Worked examples of the definitions of jobs. Each function's contract is a group of them;
 //! `specs/Examples.antt` has the trees.
 ghost use Rattle.std.specs.Prelude.{◌≡◌, ℕ, List, [], ◌∷◌, ◌++◌, false, true, codes};
+ghost use Rattle.std.specs.Prelude.{Some, None};
 ghost use Rattle.ps_model.specs.Tree.{formal_degree, node_count, has_y, divisors, IsValidTree};
 ghost use Rattle.ps_model.specs.Value.{HasLead, IsValue};
 ghost use Rattle.ps_model.specs.SeriesRing.{Poly};
 ghost use Rattle.ps_model.specs.Notation.{zero, one, shifted, truncated};
 ghost use Rattle.ps_model.specs.BlockText.{power_line, block_text};
 ghost use Rattle.ps_model.specs.Job.{series_ring, job_ring, IsFactors, IsFirstFault};
-ghost use Rattle.ps_model.specs.Job.{IsValidJob, DividesByY};
-ghost use Rattle.ps_model.specs.Job.{TooManyNodes, DegreeTooLarge, NotMonic, NotAUnit};
+ghost use Rattle.ps_model.specs.Job.{IsValidJob, OfInput, LeadNotAUnit};
 ghost use Rattle.ps_model.specs.Job.{DegreeMismatch, NotApart, RootsMismatch};
+ghost use Rattle.ps_model.specs.Input.{DividesByY, TooManyNodes, DegreeTooLarge, NotAUnit};
+ghost use Rattle.ps_model.specs.Lead.{IsLead, IsLeadShown};
+ghost use Rattle.ps_model.specs.Examples.{three_y_plus_x, two_y_plus_one, two_job, two_factors};
+ghost use Rattle.ps_model.specs.Examples.{series_times_square, square_job, two_and_x, square_factors};
+ghost use Rattle.ps_model.specs.Examples.{quotient_job, three_ones, quotient_factors};
 ghost use Rattle.ps_model.specs.Examples.{ring_modulo, job, root};
 ghost use Rattle.ps_model.specs.Examples.{x, y, number, divided, raised, quadratic, y_plus_one};
 ghost use Rattle.ps_model.specs.Examples.{tower, halved_cube, y_over_series, double_division};
@@ -85,22 +90,27 @@ pub fn leading_numbers()
 
 /// Faults that the form of a tree has, each the first of its job.
 pub fn faults_of_form()
-    ensures by_y { IsFirstFault (job 7 one_over_y (root 0 1 ∷ [])) (DividesByY 1) }
+    ensures by_y { IsFirstFault (job 7 one_over_y (root 0 1 ∷ [])) (OfInput (DividesByY 1)) }
     ensures nodes { IsFirstFault (job 7 (raised y_plus_one 100) (root 6 100 ∷ []))
-        (TooManyNodes 5153) }
+        (OfInput (TooManyNodes 5153)) }
     // More nodes than the largest count that is told.
-    ensures tower { IsFirstFault (job 7 tower (root 0 1 ∷ [])) (TooManyNodes 4294967295) }
+    ensures tower { IsFirstFault (job 7 tower (root 0 1 ∷ [])) (OfInput (TooManyNodes 4294967295)) }
     ensures degree { IsFirstFault (job 7 (raised y_plus_one 40) (root 6 40 ∷ []))
-        (DegreeTooLarge 40) }
-    ensures not_monic { IsFirstFault (job 7 two_y_squared (root 0 2 ∷ [])) NotMonic }
+        (OfInput (DegreeTooLarge 40)) }
+{}
+
+/// Leads whose constant term isn't a unit: 3 modulo 6, and 0 where the highest power cancels.
+pub fn faults_of_leads()
+    ensures three { IsFirstFault (job 6 three_y_plus_x (root 0 1 ∷ [])) (LeadNotAUnit 3 3) }
+    ensures vanishing { IsFirstFault (job 7 vanishing_cube (root 0 1 ∷ [])) (LeadNotAUnit 0 7) }
 {}
 
 /// Divisions by x, which is 0 at the origin: the first of a job; and the second where the first
 /// doesn't fail, since its divisor has no value. A divisor may be 2 at the origin, modulo 6.
 pub fn faults_of_divisions()
-    ensures by_x { IsFirstFault (job 7 one_over_x (root 0 1 ∷ [])) (NotAUnit 1 0 7) }
-    ensures double { IsFirstFault (job 7 double_division (root 0 1 ∷ [])) (NotAUnit 2 0 7) }
-    ensures two { IsFirstFault (job 6 one_over_two_plus_x (root 0 1 ∷ [])) (NotAUnit 1 2 2) }
+    ensures by_x { IsFirstFault (job 7 one_over_x (root 0 1 ∷ [])) (OfInput (NotAUnit 1 0 7)) }
+    ensures double { IsFirstFault (job 7 double_division (root 0 1 ∷ [])) (OfInput (NotAUnit 2 0 7)) }
+    ensures two { IsFirstFault (job 6 one_over_two_plus_x (root 0 1 ∷ [])) (OfInput (NotAUnit 1 2 2)) }
 {}
 
 /// Faults of the roots: their number, two that differ by no unit, one that stands twice, and
@@ -116,23 +126,26 @@ pub fn faults_of_roots()
     ensures plus { IsFirstFault (job 7 square_plus_one (root 0 2 ∷ [])) (RootsMismatch 0 1 0) }
     ensures power { IsFirstFault (job 7 square_plus_y (root 0 1 ∷ root 3 1 ∷ []))
         (RootsMismatch 1 1 4) }
+    ensures lead { IsFirstFault (job 7 two_y_plus_one (root 0 1 ∷ [])) (RootsMismatch 0 1 0) }
 {}
 
 /// The first of several: the second division is the first by Y, which comes before the first that
 /// fails; a division counts under the power 0 too; and of the pairs of roots 1 and 4, 2 and 3, and
 /// 3 and 4 the first is told.
 pub fn first_of_several()
-    ensures by_y { IsFirstFault (job 7 over_x_and_y (root 0 1 ∷ [])) (DividesByY 2) }
+    ensures by_y { IsFirstFault (job 7 over_x_and_y (root 0 1 ∷ [])) (OfInput (DividesByY 2)) }
     ensures power_zero { IsFirstFault (job 7 power_zero_of_quotient (root 0 1 ∷ []))
-        (NotAUnit 1 0 7) }
+        (OfInput (NotAUnit 1 0 7)) }
     ensures pair { IsFirstFault
         (job 6 fourth_power_plus_x (root 0 1 ∷ root 1 1 ∷ root 5 1 ∷ root 2 1 ∷ []))
         (NotApart 1 4 4 2) }
 {}
 
-/// A job without a fault, modulo 15.
-pub fn valid_job()
-    ensures { IsValidJob split_job }
+/// Jobs without a fault: modulo 15, and with the leads 2 and 2 + x modulo 7.
+pub fn valid_jobs()
+    ensures split { IsValidJob split_job }
+    ensures two { IsValidJob two_job }
+    ensures square { IsValidJob square_job }
 {}
 
 /// Values up to degree 2: a product that vanishes modulo 6, the quotient 1 / (1 - x), a number as
@@ -185,6 +198,19 @@ pub fn factors_with_divisions()
     ensures number { IsFactors halved_job 1 halved_factors }
 {}
 
+/// Leads that aren't known to be 1, and the factors beside them: a number, a polynomial, and a series
+/// up to degree 2.
+pub fn leads()
+    ensures two { IsLead (ring_modulo 7) 0 two_y_plus_one (written (ring_modulo 7) ((2, [], 0) ∷ [])) }
+    ensures two_shown { IsLeadShown (ring_modulo 7) two_y_plus_one }
+    ensures two_factors { IsFactors two_job 0 two_factors }
+    ensures square { IsLead (ring_modulo 7) 2 series_times_square (written (ring_modulo 7) two_and_x) }
+    ensures square_shown { IsLeadShown (ring_modulo 7) series_times_square }
+    ensures square_factors { IsFactors square_job 2 square_factors }
+    ensures quotient { IsLead (ring_modulo 7) 2 y_over_series (written (ring_modulo 7) three_ones) }
+    ensures quotient_factors { IsFactors quotient_job 2 quotient_factors }
+{}
+
 /// Variables of the weights 1 and 3, or 2: degrees, where a weight 0 and a missing one count as 1; a
 /// truncation, which keeps z*Y; the factors of a job up to degree 1; and the order of a line's terms.
 pub fn weights()
@@ -198,33 +224,38 @@ pub fn weights()
         ≡ codes "Y^0: 5 + 3*x + 1*x^2 + 2*z\n" }
 {}
 
-/// The blocks of those factors; and a line with two variables, whose terms stand by degree, then by
-/// falling powers.
+/// The blocks of those factors, the last with its lead; and a line with two variables, whose terms
+/// stand by degree, then by falling powers.
 pub fn blocks()
-    ensures split { block_text (job_ring split_job) (codes "x" ∷ []) split_job.roots
+    ensures split { block_text (job_ring split_job) (codes "x" ∷ []) None split_job.roots
         split_factors 1
         ≡ codes "precision 1\n"
         ++ codes "factor 1 root 0 times 1\n" ++ codes "Y^1: 1\n" ++ codes "Y^0: 14*x\n"
         ++ codes "factor 2 root 1 times 1\n" ++ codes "Y^1: 1\n" ++ codes "Y^0: 14 + 1*x\n" }
-    ensures double { block_text (job_ring double_root_job) (codes "x" ∷ []) double_root_job.roots
+    ensures double { block_text (job_ring double_root_job) (codes "x" ∷ []) None double_root_job.roots
         double_root_factors 3
         ≡ codes "precision 3\n"
         ++ codes "factor 1 root 0 times 2\n" ++ codes "Y^2: 1\n" ++ codes "Y^1: 0\n"
         ++ codes "Y^0: 1*x\n"
         ++ codes "factor 2 root 1 times 1\n" ++ codes "Y^1: 1\n" ++ codes "Y^0: 6\n" }
-    ensures start { block_text (job_ring double_root_job) (codes "x" ∷ []) double_root_job.roots
+    ensures start { block_text (job_ring double_root_job) (codes "x" ∷ []) None double_root_job.roots
         double_root_start 0
         ≡ codes "precision 0\n"
         ++ codes "factor 1 root 0 times 2\n" ++ codes "Y^2: 1\n" ++ codes "Y^1: 0\n"
         ++ codes "Y^0: 0\n"
         ++ codes "factor 2 root 1 times 1\n" ++ codes "Y^1: 1\n" ++ codes "Y^0: 6\n" }
-    ensures quadratic { block_text (job_ring quadratic_job) (codes "x" ∷ []) quadratic_job.roots
+    ensures quadratic { block_text (job_ring quadratic_job) (codes "x" ∷ []) None quadratic_job.roots
         quadratic_factors 2
         ≡ codes "precision 2\n"
         ++ codes "factor 1 root 10 times 1\n" ++ codes "Y^1: 1\n"
         ++ codes "Y^0: 91 + 51*x + 77*x^2\n"
         ++ codes "factor 2 root 91 times 1\n" ++ codes "Y^1: 1\n"
         ++ codes "Y^0: 10 + 51*x + 24*x^2\n" }
+    ensures lead { block_text (job_ring square_job) (codes "x" ∷ [])
+        (Some (written (job_ring square_job) two_and_x)) square_job.roots square_factors 2
+        ≡ codes "precision 2\n" ++ codes "lead: 2 + 1*x\n"
+        ++ codes "factor 1 root 0 times 2\n" ++ codes "Y^2: 1\n" ++ codes "Y^1: 0\n"
+        ++ codes "Y^0: 4*x + 5*x^2\n" }
     ensures line { power_line (ring_modulo 7) (codes "x" ∷ codes "z" ∷ []) 2
         (two_variables (ring_modulo 7)) 0
         ≡ codes "Y^0: 5 + 3*x + 2*z + 1*x^2 + 4*x*z + 6*z^2\n" }

@@ -11,8 +11,7 @@ pub mod laws;
 mod name_view;
 mod out_of_memory;
 pub mod plain;
-#[cfg(test)]
-mod tests;
+mod shape;
 
 pub use comparison::same;
 pub use copies::copy_of;
@@ -21,3 +20,4 @@ pub use job::{JobData, Root};
 pub use name_view::NameView;
 pub use out_of_memory::OutOfMemory;
 pub use plain::{PlainPoly, PlainTerm, plain_cut, plain_is_factors, plain_product, plain_sum};
+pub use shape::{formal_degree, node_count};

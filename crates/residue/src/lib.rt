@@ -171,6 +171,3 @@ impl fmt::Display for NoInverse {
 }
 
 impl Error for NoInverse {}
-
-#[cfg(test)]
-mod tests;

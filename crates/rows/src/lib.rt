@@ -9,6 +9,3 @@ mod own;
 
 pub use item::{RowItem, RowOut};
 pub use own::OwnRow;
-
-#[cfg(test)]
-mod tests;

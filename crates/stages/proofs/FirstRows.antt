@@ -42,7 +42,8 @@ use Rattle.stages.specs.Titles.{TitleValue, times_at, later_times}
 use Rattle.stages.proofs.Prepares.{before, facts}
 
 -- the polynomial at a place of a row
-part_here : (m : ℕ) (ws : List ℕ) (row : List PartValue) (j : ℕ) → part_of (ring_of (series_ring m ws)) (maps_modulo m ws row) j
+part_here : (m : ℕ) (ws : List ℕ) (row : List PartValue) (j : ℕ)
+    → part_of (ring_of (series_ring m ws)) (maps_modulo m ws row) j
     ≡ polynomial_modulo m ws (part_in row j).map
 unfolding series_ring polynomial_modulo maps_modulo
 part_here m ws [] j = refl
@@ -54,7 +55,8 @@ abbrev CanAt : ℕ → List ℕ → ℕ → List PartValue → Type 0
 CanAt m ws k row = ((i : ℕ) → i < k → polynomial_modulo m ws (part_in row i).map ≡ nought (ring_of (series_ring m ws)))
     × IsUnit m (constant_term (polynomial_modulo m ws (part_in row k).map))
 
-can_at : (m : ℕ) (ws : List ℕ) (k q : ℕ) (G : Poly (series_ring m ws)) (row : List PartValue) → (series_ring m ws).modulus ≡ m
+can_at : (m : ℕ) (ws : List ℕ) (k q : ℕ) (G : Poly (series_ring m ws)) (row : List PartValue)
+    → (series_ring m ws).modulus ≡ m
     → IsPreparable G k q → IsRowOf (k + q) 0 G (maps_modulo m ws row) → CanAt m ws k row
 can_at m ws k q G row same can is = (
   λ i lt. sym (part_here m ws row i) ∙ is.slices i (omega arith) ∙ slice_at-constant (ring_of (series_ring m ws)) i G
@@ -71,10 +73,15 @@ can_at m ws k q G row same can is = (
         ∙ coefficient-slice_at (ring_of (series_ring m ws)) k G
 
 -- the row of a polynomial that can be prepared
-pub can_begin : (ring : Ring) (m : ℕ) (ws : List ℕ) (k q : ℕ) (G : Poly (series_ring m ws)) (row : List PartValue) → modulus_of ring ≡ m
-    → eight_weights ring ≡ ws → (series_ring m ws).modulus ≡ m → IsPreparable G k q → IsRowOf (k + q) 0 G (maps_modulo m ws row) → CanBegin ring k row
+pub can_begin : (ring : Ring) (m : ℕ) (ws : List ℕ) (k q : ℕ) (G : Poly (series_ring m ws)) (row : List PartValue)
+    → modulus_of ring ≡ m
+    → eight_weights ring ≡ ws → (series_ring m ws).modulus ≡ m → IsPreparable G k q
+    → IsRowOf (k + q) 0 G (maps_modulo m ws row) → CanBegin ring k row
 can_begin ring m ws k q G row modulus weights same can is =
-    let at = subst (λ (p : ℕ × List ℕ). CanAt p.0 p.1 k row) (λ i. (sym modulus i, sym weights i)) (can_at m ws k q G row same can is) in
+    let at = subst (λ (p : ℕ × List ℕ). CanAt p.0 p.1 k row) (λ i. (
+      sym modulus i,
+      sym weights i,
+    )) (can_at m ws k q G row same can is) in
     record { lower = at.0; unit = at.1 }
 
 -- what a part of which nothing is left has at a key
@@ -131,7 +138,8 @@ module _ (title : TitleValue) (ok : IsAccepted title.job) (lt : title.stage < le
       (before title ok lt 0) row
       → CanBegin ring (times_at title.job title.stage) row
   first_row row are = can_begin ring title.job.modulus title.job.weights (times_at title.job title.stage)
-      (later_times title.job title.stage) (before title ok lt 0 list.one_value) row ring_is.0 ring_is.2 (same_modulus title.job ok.modulus.0)
+      (later_times title.job title.stage) (before title ok lt 0 list.one_value) row ring_is.0 ring_is.2
+      (same_modulus title.job ok.modulus.0)
       (facts title ok lt 0 list.one_value list.meets).can (are.slices list.one_value list.meets)
     where
       list : ExactlyOne (IsFactors title.job 0)

@@ -17,7 +17,7 @@ use Rattle.ps_model.specs.Shift.{shifted}
 use Rattle.ps_model.specs.Slices.{slice_at}
 use Rattle.ps_model.specs.Truncation.{truncated}
 use Rattle.ps_model.proofs.JobRoots.{accepted_lawful}
-use Rattle.ps_model.proofs.JobFactors.{factorable_value, factors_truncated}
+use Rattle.ps_model.proofs.JobFactors.{factorable_input, factors_truncated}
 use Rattle.ps_model.proofs.ShiftDegrees.{truncated-shifted}
 use Rattle.ps_model.proofs.SliceValues.{slice_at-truncated}
 use Rattle.ps_model.proofs.Stages.{StageFacts, stage, stage_back, product_from-truncated}
@@ -49,12 +49,14 @@ each-length R D (r ∷ roots) [] is = absurd is
 each-length R D (r ∷ roots) (f ∷ fs) is = ap suc (each-length R D roots fs is.1)
 
 -- parts of one ring of a job are parts of another
-pub parts_same : (ring other : Ring) (job : JobData) (K r : ℕ) (row : List PartValue) → IsRingOf ring job → IsRingOf other job
+pub parts_same : (ring other : Ring) (job : JobData) (K r : ℕ) (row : List PartValue) → IsRingOf ring job
+    → IsRingOf other job
     → IsRowOfParts ring K r row → IsRowOfParts other K r row
 parts_same ring other job K r row is also are = record {
   places = are.places;
   degrees = are.degrees;
-  parts = λ i d low. subst (λ ws. All (IsEntryOf (modulus_of other) ws (get_or row i d).degree) (entries (get_or row i d).map))
+  parts = λ i d low. subst (λ ws. All (IsEntryOf (modulus_of other) ws (get_or row i d).degree) (entries
+      (get_or row i d).map))
       weights (subst (λ m. All (IsEntryOf m (weights_of ring) (get_or row i d).degree) (entries (get_or row i d).map))
       (is.0 ∙ sym also.0) (are.parts i d low));
 }
@@ -92,7 +94,7 @@ module _ (title : TitleValue) (ok : IsAccepted title.job) (lt : title.stage < le
 
   pub facts : (D : ℕ) (fs : List (Poly (job_ring title.job))) → IsFactors title.job D fs
       → StageFacts R D title.stage (root_at title.job title.stage) q fs
-  facts D fs is = let f = factorable_value title.job (accepted_lawful title.job ok) D fs is in
+  facts D fs is = let f = factorable_input title.job (accepted_lawful title.job ok) D fs is in
       stage R D title.stage no_root title.job.roots f.0 fs f.2 f.3 lt
 
   -- a row that fits the list up to its own degree has the slices of the list's polynomial up to a greater one
@@ -112,7 +114,8 @@ module _ (title : TitleValue) (ok : IsAccepted title.job) (lt : title.stage < le
       → shifted R c (factor_at title.job title.stage (each_truncated r fs))
       ≡ truncated R R.degree r (shifted R c (factor_at title.job title.stage fs))
   factor_slices r D fs is = ap (shifted R c) (member-truncated R r title.stage fs
-      (let same : length title.job.roots ≡ length fs = each-length R D title.job.roots fs is.are_factors.each in omega arith))
+      (let same : length title.job.roots ≡ length fs = each-length R D title.job.roots fs is.are_factors.each in
+      omega arith))
       ∙ sym (truncated-shifted R r c (factor_at title.job title.stage fs))
 
   left_slices : (r D : ℕ) (fs : List (Poly (job_ring title.job))) → r ≤ D
@@ -125,10 +128,12 @@ module _ (title : TitleValue) (ok : IsAccepted title.job) (lt : title.stage < le
   pub pair_at : (D : ℕ) (rows_p rows_u : List (List PartValue)) → length rows_p ≡ suc D → length rows_u ≡ suc D
       → ((r : ℕ) → r < suc D → ArePrepared title r (get_or rows_p r []) (get_or rows_u r []))
       → (fs : List (Poly (job_ring title.job))) → IsFactors title.job D fs
-      → IsPrepared (before D fs) k q D (rows_modulo title.job.modulus title.job.weights rows_p) (rows_modulo title.job.modulus title.job.weights rows_u)
+      → IsPrepared (before D fs) k q D (rows_modulo title.job.modulus title.job.weights rows_p)
+      (rows_modulo title.job.modulus title.job.weights rows_u)
   pair_at D rows_p rows_u count_p count_u rows fs is = pair_of_rows R (before D fs) k q D
       (shifted R c (factor_at title.job title.stage fs)) (shifted R c (product_from D (suc title.stage) fs))
-      (map (maps_modulo title.job.modulus title.job.weights) rows_p) (map (maps_modulo title.job.modulus title.job.weights) rows_u) (facts D fs is).is
+      (map (maps_modulo title.job.modulus title.job.weights) rows_p) (map
+      (maps_modulo title.job.modulus title.job.weights) rows_u) (facts D fs is).is
       (record {
         count = length-map rows_p (maps_modulo title.job.modulus title.job.weights) ∙ count_p;
         row = λ r low. subst (IsRowOf k r (shifted R c (factor_at title.job title.stage fs)))
@@ -148,7 +153,8 @@ module _ (title : TitleValue) (ok : IsAccepted title.job) (lt : title.stage < le
   pub last_rows : (D : ℕ) (ring : Ring) (rows_p rows_u : List (List PartValue)) → IsRingOf ring title.job
       → AreRowsOfParts ring k rows_p → AreRowsOfParts ring q rows_u → D < length rows_p → D < length rows_u
       → ((fs : List (Poly (job_ring title.job))) → IsFactors title.job D fs
-      → IsPrepared (before D fs) k q D (rows_modulo title.job.modulus title.job.weights rows_p) (rows_modulo title.job.modulus title.job.weights rows_u))
+      → IsPrepared (before D fs) k q D (rows_modulo title.job.modulus title.job.weights rows_p)
+      (rows_modulo title.job.modulus title.job.weights rows_u))
       → ArePrepared title D (get_or rows_p D []) (get_or rows_u D [])
   last_rows D ring rows_p rows_u ring_is are_p are_u low_p low_u pairs = record {
     polynomial = record {
@@ -173,7 +179,8 @@ module _ (title : TitleValue) (ok : IsAccepted title.job) (lt : title.stage < le
           → (rows_modulo title.job.modulus title.job.weights rows_p ≡ shifted R c (factor_at title.job title.stage fs))
           × (rows_modulo title.job.modulus title.job.weights rows_u ≡ shifted R c (product_from D (suc title.stage) fs))
       back fs is =
-          let f = factorable_value title.job (accepted_lawful title.job ok) D fs is in
+          let f = factorable_input title.job (accepted_lawful title.job ok) D fs is in
           let both = stage_back R D title.stage no_root title.job.roots f.0 fs f.2 f.3 lt
-          (rows_modulo title.job.modulus title.job.weights rows_p) (rows_modulo title.job.modulus title.job.weights rows_u) (pairs fs is) in
+          (rows_modulo title.job.modulus title.job.weights rows_p)
+          (rows_modulo title.job.modulus title.job.weights rows_u) (pairs fs is) in
           (both.0, both.1)

@@ -56,7 +56,8 @@ pub record InRound (r i : ℕ) (old new : List StageState) (before after : ℕ) 
 -- the stage at a place gets it
 pub round_more : (r i : ℕ) (old mid new : List StageState) (t u v : ℕ) → i < length old → InRound r i old mid t u
     → AllGrow (r + 1) mid new → ((d : StageState) → r < length (get_or new i d).items)
-    → (AreFalling mid → AreFalling new) → v + sum_by prepared_of mid ≡ u + sum_by prepared_of new → InRound r (i + 1) old new t v
+    → (AreFalling mid → AreFalling new) → v + sum_by prepared_of mid ≡ u + sum_by prepared_of new
+    → InRound r (i + 1) old new t v
 round_more r i old mid new t u v lt so_far grow here falling ticks = record {
   grow = all_twice (r + 1) (r + 1) old mid new (omega arith) so_far.grow grow;
   done = λ s d low. elim (cases_lt s i) [

@@ -29,12 +29,14 @@ module _ (R : Ring) where
       → HasNoPowerAbove K p → HasNoDegreeAbove D p → polynomial_of_rows R rows ≡ p
   together K D p rows are powers within =
       sym (rows_no_degree_above R K D rows (rows_for K (suc D) p rows are) (let n = are.count in omega arith))
-      ∙ same_slices R D K (polynomial_of_rows R rows) p (rows_no_power_above R K rows (rows_for K (suc D) p rows are)) powers
+      ∙ same_slices R D K (polynomial_of_rows R rows) p (rows_no_power_above R K rows (rows_for K
+      (suc D) p rows are)) powers
       (λ r j le lj. slice_at-rows R K r j rows (rows_for K (suc D) p rows are) ∙ (are.row r (omega arith)).slices j lj)
       ∙ within
 
   -- so they are the prepared pair
-  pub pair_of_rows : (G : Polynomial R) (k q D : ℕ) (p u : Polynomial R) (rows_p rows_u : List (List (FinMap R.compare ℕ)))
+  pub pair_of_rows : (G : Polynomial R) (k q D : ℕ) (p u : Polynomial R) (rows_p rows_u : List (List
+      (FinMap R.compare ℕ)))
       → IsPrepared G k q D p u → AreRowsFor k (suc D) p rows_p → AreRowsFor q (suc D) u rows_u
       → IsPrepared G k q D (polynomial_of_rows R rows_p) (polynomial_of_rows R rows_u)
   pair_of_rows G k q D p u rows_p rows_u is are_p are_u =

@@ -1,5 +1,6 @@
 -- What a stage's preparation is after each call, and what its rows are once they are shifted back.
-use Rattle.std.proofs.Common.{◌≡◌, ℕ, zero, suc, ◌+◌, ◌-◌, ◌%◌, ◌<◌, ◌≤◌, List, [], ◌∷◌, ◌++◌, length, get_or, drop, refl, sym}
+use Rattle.std.proofs.Common.{◌≡◌, ℕ, zero, suc, ◌+◌, ◌-◌, ◌%◌, ◌<◌, ◌≤◌, List, [], ◌∷◌, ◌++◌, length, get_or, drop}
+use Rattle.std.proofs.Common.{refl, sym}
 use Rattle.std.proofs.Common.{◌∙◌, ap, subst, arith, ◌⊎◌, inl, inr, length-append}
 use Rattle.std.proofs.Math.Nat.{add-mod-mod, mod_self}
 use Rattle.std.proofs.Math.ListN.{get_or-append}
@@ -65,23 +66,31 @@ negative_is : (m c : ℕ) → c < m → (c + (m - c) % m) % m ≡ 0
 negative_is m c lt = add-mod-mod c (m - c) m ∙ ap (λ n. n % m) (omega arith) ∙ mod_self m
 
 -- what a pair is promised for, modulo m
-abbrev Pairs : (m : ℕ) (ws : List ℕ) (k q d r : ℕ) → List PartValue → List (List PartValue) → List (List PartValue) → Type 0
+abbrev Pairs : (m : ℕ) (ws : List ℕ) (k q d r : ℕ) → List PartValue → List (List PartValue) → List (List PartValue)
+    → Type 0
 Pairs m ws k q d r row rows_p rows_u = (G : Poly (series_ring m ws)) → HasNoPowerAbove (k + q) G
-    → IsRowOf (k + q) r G (maps_modulo m ws row) → IsPrepared G k q d (rows_modulo m ws rows_p) (rows_modulo m ws rows_u)
+    → IsRowOf (k + q) r G (maps_modulo m ws row) → IsPrepared G k q d (rows_modulo m ws rows_p)
+    (rows_modulo m ws rows_u)
 
-pairs_moved : (m n : ℕ) (ws xs : List ℕ) (k k' q q' d d' r : ℕ) (row : List PartValue) (rows_p rows_u : List (List PartValue)) → m ≡ n → ws ≡ xs → k ≡ k'
+pairs_moved : (m n : ℕ) (ws xs : List ℕ) (k k' q q' d d' r : ℕ) (row : List PartValue) (rows_p rows_u : List
+    (List PartValue)) → m ≡ n → ws ≡ xs → k ≡ k'
     → q ≡ q' → d ≡ d' → Pairs m ws k q d r row rows_p rows_u → Pairs n xs k' q' d' r row rows_p rows_u
 pairs_moved m n ws xs k k' q q' d d' r row rows_p rows_u e e' f g h pairs =
     subst (λ x. Pairs n xs k' q' x r row rows_p rows_u) h (subst (λ x. Pairs n xs k' x d r row rows_p rows_u) g
-    (subst (λ x. Pairs n xs x q d r row rows_p rows_u) f (subst (λ (p : ℕ × List ℕ). Pairs p.0 p.1 k q d r row rows_p rows_u) (λ i. (e i, e' i)) pairs)))
+    (subst (λ x. Pairs n xs x q d r row rows_p rows_u) f (subst (λ (p : ℕ
+    × List ℕ). Pairs p.0 p.1 k q d r row rows_p rows_u) (λ i. (e i, e' i)) pairs)))
 
-abbrev NextPairs : (m : ℕ) (ws : List ℕ) (k q d e r : ℕ) → List PartValue → (rows_p rows_u new_p new_u : List (List PartValue)) → Type 0
+abbrev NextPairs : (m : ℕ) (ws : List ℕ) (k q d e r : ℕ) → List PartValue
+    → (rows_p rows_u new_p new_u : List (List PartValue)) → Type 0
 NextPairs m ws k q d e r row rows_p rows_u new_p new_u = (G : Poly (series_ring m ws)) → HasNoPowerAbove (k + q) G
-    → IsRowOf (k + q) r G (maps_modulo m ws row) → IsPrepared G k q d (rows_modulo m ws rows_p) (rows_modulo m ws rows_u)
+    → IsRowOf (k + q) r G (maps_modulo m ws row) → IsPrepared G k q d (rows_modulo m ws rows_p)
+    (rows_modulo m ws rows_u)
     → IsPrepared G k q e (rows_modulo m ws new_p) (rows_modulo m ws new_u)
 
-next_moved : (m n : ℕ) (ws xs : List ℕ) (k k' q q' d d' e e' r r' : ℕ) (row : List PartValue) (rows_p rows_u new_p new_u : List (List PartValue))
-    → m ≡ n → ws ≡ xs → k ≡ k' → q ≡ q' → d ≡ d' → e ≡ e' → r ≡ r' → NextPairs m ws k q d e r row rows_p rows_u new_p new_u
+next_moved : (m n : ℕ) (ws xs : List ℕ) (k k' q q' d d' e e' r r' : ℕ) (row : List PartValue)
+    (rows_p rows_u new_p new_u : List (List PartValue))
+    → m ≡ n → ws ≡ xs → k ≡ k' → q ≡ q' → d ≡ d' → e ≡ e' → r ≡ r'
+    → NextPairs m ws k q d e r row rows_p rows_u new_p new_u
     → NextPairs n xs k' q' d' e' r' row rows_p rows_u new_p new_u
 next_moved m n ws xs k k' q q' d d' e e' r r' row rows_p rows_u new_p new_u a a' b c' d1 e1 f pairs =
     subst (λ x. NextPairs n xs k' q' d' e' x row rows_p rows_u new_p new_u) f
@@ -120,7 +129,8 @@ module _ (title : TitleValue) (ok : IsAccepted title.job) (lt : title.stage < le
   shifted_slices b K r f g row out are shift powers same = record {
     parts = λ other also. parts_same ring other title.job K r out ring_is also row_of_parts;
     slices = λ fs at. subst (λ p. IsRowOf K r p (maps_modulo m ws out)) (same fs at)
-        (shifted_row_of R b K r (f fs) (maps_modulo m ws row) (maps_modulo m ws out) (powers fs at) (are.slices fs at) row_here
+        (shifted_row_of R b K r (f fs) (maps_modulo m ws row) (maps_modulo m ws out) (powers fs at)
+        (are.slices fs at) row_here
         polynomial_here);
   }
     where
@@ -137,11 +147,14 @@ module _ (title : TitleValue) (ok : IsAccepted title.job) (lt : title.stage < le
       series_is = λ i. (ring_is.0 i, ring_is.2 i)
 
       row_here : IsRow R K r (maps_modulo m ws out)
-      row_here = subst (λ (n : ℕ × List ℕ). IsRow (ring_of (series_ring n.0 n.1)) K r (maps_modulo n.0 n.1 out)) series_is
+      row_here = subst (λ (n : ℕ × List ℕ). IsRow (ring_of (series_ring n.0 n.1)) K r
+          (maps_modulo n.0 n.1 out)) series_is
           is.out_is
 
-      polynomial_here : polynomial_of_row R 0 (maps_modulo m ws out) ≡ shifted R b (polynomial_of_row R 0 (maps_modulo m ws row))
-      polynomial_here = subst (λ (n : ℕ × List ℕ). polynomial_of_row (ring_of (series_ring n.0 n.1)) 0 (maps_modulo n.0 n.1 out)
+      polynomial_here : polynomial_of_row R 0 (maps_modulo m ws out) ≡ shifted R b (polynomial_of_row R 0
+          (maps_modulo m ws row))
+      polynomial_here = subst (λ (n : ℕ × List ℕ). polynomial_of_row (ring_of (series_ring n.0 n.1)) 0
+          (maps_modulo n.0 n.1 out)
           ≡ shifted (ring_of (series_ring n.0 n.1)) b (polynomial_of_row (ring_of (series_ring n.0 n.1)) 0
           (maps_modulo n.0 n.1 row))) series_is is.polynomial
 
@@ -193,8 +206,10 @@ module _ (title : TitleValue) (ok : IsAccepted title.job) (lt : title.stage < le
       → (fs : List (Poly (job_ring title.job))) → IsFactors title.job 0 fs
       → IsPrepared (before title ok lt 0 fs) k q 0 (rows_modulo m ws prep.rows_p) (rows_modulo m ws prep.rows_u)
   at_begin up prep begins q_is are fs is =
-      pairs_moved (modulus_of prep.ring) m (eight_weights prep.ring) ws prep.k k prep.q q (degrees_of prep - 1) 0 0 up prep.rows_p prep.rows_u
-      (ap modulus_of begins.ring_is ∙ ring_is.0) (ap eight_weights begins.ring_is ∙ ring_is.2) begins.k_is q_is (let n = begins.degrees in omega arith) begins.pair
+      pairs_moved (modulus_of prep.ring) m (eight_weights prep.ring) ws prep.k k prep.q q
+      (degrees_of prep - 1) 0 0 up prep.rows_p prep.rows_u
+      (ap modulus_of begins.ring_is ∙ ring_is.0) (ap eight_weights begins.ring_is
+      ∙ ring_is.2) begins.k_is q_is (let n = begins.degrees in omega arith) begins.pair
       (before title ok lt 0 fs) (facts title ok lt 0 fs is).can.no_power_above (are.slices fs is)
 
   -- what is prepared once it is begun
@@ -236,11 +251,13 @@ module _ (title : TitleValue) (ok : IsAccepted title.job) (lt : title.stage < le
     where
       same : truncated R R.degree D (before title ok lt D (each_truncated D fs))
           ≡ truncated R R.degree D (before title ok lt (suc D) fs)
-      same = ap (λ t. truncated R R.degree D (shifted R c t)) (product_from-truncated R D (suc D) title.stage fs (omega arith))
+      same = ap (λ t. truncated R R.degree D (shifted R c t)) (product_from-truncated R D (suc D) title.stage fs
+          (omega arith))
           ∙ ap (truncated R R.degree D) (sym (truncated-shifted R D c (product_from (suc D) title.stage fs)))
           ∙ truncated-again R R.degree D (before title ok lt (suc D) fs)
 
-  at_next : (D : ℕ) (old new : PrepValue) (up : List PartValue) → IsPreparationOf title ring old → degrees_of old ≡ suc D
+  at_next : (D : ℕ) (old new : PrepValue) (up : List PartValue) → IsPreparationOf title ring old
+      → degrees_of old ≡ suc D
       → (adds : Adds up old new) → AreSlices title.job (k + q) (suc D) (before title ok lt (suc D)) up
       → (fs : List (Poly (job_ring title.job))) → IsFactors title.job (suc D) fs
       → IsPrepared (before title ok lt (suc D) fs) k q (suc D) (rows_modulo m ws (old.rows_p ++ adds.row_p ∷ []))
@@ -249,7 +266,8 @@ module _ (title : TitleValue) (ok : IsAccepted title.job) (lt : title.stage < le
       next_moved (modulus_of old.ring) m (eight_weights old.ring) ws old.k k old.q q (degrees_of old - 1) D
       (length (old.rows_p ++ adds.row_p ∷ []) - 1) (suc D) (degrees_of old) (suc D) up old.rows_p old.rows_u
       (old.rows_p ++ adds.row_p ∷ []) (old.rows_u ++ adds.row_u ∷ [])
-      (ap modulus_of so_far.ring_is ∙ ring_is.0) (ap eight_weights so_far.ring_is ∙ ring_is.2) so_far.k_is so_far.q_is (omega arith)
+      (ap modulus_of so_far.ring_is ∙ ring_is.0) (ap eight_weights so_far.ring_is
+      ∙ ring_is.2) so_far.k_is so_far.q_is (omega arith)
       (omega (arith, length-append old.rows_p (adds.row_p ∷ []))) degrees adds.pair
       (before title ok lt (suc D) fs) (facts title ok lt (suc D) fs is).can.no_power_above (are.slices fs is)
       (before_next D old so_far degrees fs is)
@@ -290,7 +308,8 @@ module _ (title : TitleValue) (ok : IsAccepted title.job) (lt : title.stage < le
           (at_next D old new up so_far degrees adds are)
 
       rows : (r : ℕ) → r < length (old.rows_p ++ adds.row_p ∷ []) → (r < suc D) ⊎ (suc D ≤ r)
-          → ArePrepared title r (get_or (old.rows_p ++ adds.row_p ∷ []) r []) (get_or (old.rows_u ++ adds.row_u ∷ []) r [])
+          → ArePrepared title r (get_or (old.rows_p ++ adds.row_p ∷ []) r []) (get_or
+          (old.rows_u ++ adds.row_u ∷ []) r [])
       rows r low (inl early) =
           subst (λ t. ArePrepared title r t (get_or (old.rows_u ++ adds.row_u ∷ []) r []))
           (sym (get_or-append old.rows_p (adds.row_p ∷ []) [] r (omega arith)))

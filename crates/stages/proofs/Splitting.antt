@@ -89,7 +89,8 @@ module _ (s : SplitterValue) (is : IsSplitter s) where
     K = k + q;
     r = prepared_in s.preparation;
     low = low;
-    row_is = (upstream_here s.title is.accepted is.stage s.ring is.ring_is (prepared_in s.preparation) row up).parts s.ring
+    row_is = (upstream_here s.title is.accepted is.stage s.ring is.ring_is
+        (prepared_in s.preparation) row up).parts s.ring
         is.ring_is;
   }
 
@@ -124,5 +125,6 @@ pub upstream_row : (s now : SplitterValue) → s ≡ now → (row : List PartVal
 upstream_row s now e row up =
     subst (λ v. IsUpstream v.title.job v.title.stage (prepared_in v.preparation) row) (sym e) up
 
-pub low_there : (s now : SplitterValue) → s ≡ now → prepared_in now.preparation ≤ 4095 → prepared_in s.preparation ≤ 4095
+pub low_there : (s now : SplitterValue) → s ≡ now → prepared_in now.preparation ≤ 4095
+    → prepared_in s.preparation ≤ 4095
 low_there s now e low = subst (λ v. prepared_in v.preparation ≤ 4095) (sym e) low

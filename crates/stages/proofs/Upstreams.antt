@@ -5,7 +5,7 @@ use Rattle.ps_model.specs.declared.job.JobData.{JobData}
 use Rattle.ps_model.specs.Factors.{total_times, product_from}
 use Rattle.ps_model.specs.Rows.{IsRowOf}
 use Rattle.ps_model.specs.Tree.{formal_degree}
-use Rattle.ps_model.proofs.JobFactors.{product_is_value}
+use Rattle.ps_model.proofs.JobFactors.{product_is_input}
 use Rattle.ps_model.proofs.JobRoots.{valid_degree}
 use Rattle.parts.specs.JobRows.{IsInputRow, AreJobParts}
 use Rattle.parts.specs.PartValue.{PartValue}
@@ -20,8 +20,7 @@ pub input_upstream : (job : JobData) (r : ℕ) (row : List PartValue) → IsAcce
 input_upstream job r row ok is = record {
   parts = subst (λ K. AreJobParts job K r row) degree is.parts;
   slices = λ fs factors. subst (λ K. IsRowOf K r (product_from r 0 fs) (maps_modulo job.modulus job.weights row)) degree
-      (subst (λ p. IsRowOf (formal_degree job.expr) r p (maps_modulo job.modulus job.weights row))
-      (sym (product_is_value job r fs factors)) (is.slices factors.value factors.is_value));
+      (is.slices (product_from r 0 fs) (product_is_input job r fs factors));
 }
   where
     degree : formal_degree job.expr ≡ total_times job.roots

@@ -21,7 +21,8 @@ item_code =
 
 pub record IsItem (title : TitleValue) (r : ℕ) (item : StageItemValue) : Type 0 where
   pub factor : AreSlices title.job (times_at title.job title.stage) r (factor_at title.job title.stage) item.factor
-  pub left : AreSlices title.job (later_times title.job title.stage) r (λ fs. product_from r (suc title.stage) fs) item.left
+  pub left : AreSlices title.job (later_times title.job title.stage) r (λ fs. product_from r
+      (suc title.stage) fs) item.left
 
 -- two proofs that an item fits are equal
 pub IsItem-IsProp : (title : TitleValue) (r : ℕ) (item : StageItemValue) → IsProp (IsItem title r item)

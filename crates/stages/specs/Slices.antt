@@ -23,7 +23,8 @@ use Rattle.parts.specs.Series.{maps_modulo}
 pub record AreSlices (job : JobData) (K r : ℕ) (f : List (Poly (job_ring job)) → Poly (job_ring job))
     (row : List PartValue) : Type 0 where
   pub parts : AreJobParts job K r row
-  pub slices : (fs : List (Poly (job_ring job))) → IsFactors job r fs → IsRowOf K r (f fs) (maps_modulo job.modulus job.weights row)
+  pub slices : (fs : List (Poly (job_ring job))) → IsFactors job r fs
+      → IsRowOf K r (f fs) (maps_modulo job.modulus job.weights row)
 
 abbrev pub factor_at : (job : JobData) → ℕ → List (Poly (job_ring job)) → Poly (job_ring job)
 factor_at job s fs = slice_index_or fs s zero

@@ -31,7 +31,12 @@ pub record SplitterValue : Type 0 where
 abbrev pub splitter_code : Coded SplitterValue
 splitter_code =
     code_by (Ring × (TitleValue × Option PrepValue)) (coded× the_row.coded (coded× title_code (coded_option prep_code)))
-    (λ s. (s.ring, (s.title, s.preparation))) (λ p. record { ring = p.0; title = p.1.0; preparation = p.1.1 }) (λ _. refl)
+    (λ s. (s.ring, (s.title, s.preparation))) (λ p. record {
+      ring = p.0;
+      title = p.1.0;
+      preparation =
+          p.1.1;
+    }) (λ _. refl)
 
 abbrev pub prepared_in : Option PrepValue → ℕ
 prepared_in None = 0

@@ -11,6 +11,3 @@ mod shifts;
 pub use binomials::Binomials;
 pub use shared::{SharedBinomials, Table};
 pub use shifts::shift;
-
-#[cfg(test)]
-mod tests;

@@ -6,8 +6,7 @@ use std::test::Fail;
 #[test]
 fn each_fault_has_its_line(rt: HostRuntime) -> Result<(), Fail> {
     let alloc = rt.alloc();
-    let cases: [(PlainFault, &[u8]); 4] = [
-        (PlainFault::NotMonic, b"refused line 4: not monic\n"),
+    let cases: [(PlainFault, &[u8]); 3] = [
         (
             PlainFault::DegreeMismatch {
                 degree: 0,

@@ -1,14 +1,15 @@
 //! Hensel's lemma: lists of factors, of jobs and of polynomials, and the stages that split them off.
-ghost use Rattle.std.specs.Prelude.{◌≡◌, ℕ, suc, ◌-◌, ◌<◌, ◌≤◌, List, ◌∷◌, length, drop};
+ghost use Rattle.std.specs.Prelude.{◌≡◌, ℕ, suc, ◌-◌, ◌<◌, ◌≤◌, ◌↔◌, List, ◌∷◌, length, drop};
 ghost use Rattle.std.specs.Prelude.{slice_index_or};
 ghost use Rattle.ps_model.specs.SeriesRing.{SeriesRing, Poly};
-ghost use Rattle.ps_model.specs.Notation.{zero, truncated, shifted};
-ghost use Rattle.ps_model.specs.Bounds.{ExactlyOne};
+ghost use Rattle.ps_model.specs.Notation.{zero, constant_term, truncated, shifted};
+ghost use Rattle.ps_model.specs.Bounds.{IsUnit, ExactlyOne};
 ghost use Rattle.ps_model.specs.Prepared.{IsPreparable, IsPrepared};
 ghost use Rattle.ps_model.specs.declared.job.Root.{Root};
 ghost use Rattle.ps_model.specs.Factors.{total_times, product_from, each_truncated, IsFactorable};
 ghost use Rattle.ps_model.specs.Factors.{IsFactorList};
-ghost use Rattle.ps_model.specs.Value.{IsValue};
+ghost use Rattle.ps_model.specs.Lead.{IsLead, IsMonicInput};
+ghost use Rattle.ps_model.specs.Input.{IsValidInput};
 ghost use Rattle.ps_model.specs.declared.job.JobData.{JobData};
 ghost use Rattle.ps_model.specs.Tree.{formal_degree};
 ghost use Rattle.ps_model.specs.Job.{job_ring, IsFactors};
@@ -74,15 +75,23 @@ pub fn stage_laws()
         truncated D G ≡ truncated D H → IsPrepared G k q D p u → IsPrepared H k q D p u }
 {}
 
-/// Lawful jobs. The formal degree is the sum of the multiplicities, at most 32. The value of which
-/// the factors are those is factorable by the roots, and they are its list. An accepted job is
-/// lawful.
+/// Lawful jobs. The formal degree is the sum of the multiplicities, at most 32, and the lead's
+/// constant term is a unit. There is exactly one monic input at each degree; it is factorable by the
+/// roots, and its lists of factors are the job's. An accepted job is lawful.
 pub fn job_laws()
     ensures degree { (job : JobData) → IsLawfulJob job →
         (total_times job.roots ≡ formal_degree job.expr) × (formal_degree job.expr ≤ 32) }
-    ensures factorable { (job : JobData) (D : ℕ) (fs : List (Poly (job_ring job))) →
-        IsLawfulJob job → IsFactors job D fs →
-        (F : Poly (job_ring job)) × IsValue (job_ring job) D job.expr F
-        × IsFactorable F job.roots × IsFactorList D F job.roots fs }
+    ensures input { (job : JobData) → IsLawfulJob job → IsValidInput (job_ring job) job.expr }
+    ensures lead { (job : JobData) (D : ℕ) (l : Poly (job_ring job)) → IsLawfulJob job →
+        IsLead (job_ring job) D job.expr l →
+        IsUnit (job_ring job).modulus (constant_term l) }
+    ensures monic_input { (job : JobData) (D : ℕ) → IsLawfulJob job →
+        ExactlyOne (IsMonicInput (job_ring job) D job.expr) }
+    ensures factorable { (job : JobData) (D : ℕ) (q : Poly (job_ring job)) → IsLawfulJob job →
+        IsMonicInput (job_ring job) D job.expr q → IsFactorable q job.roots }
+    ensures lists { (job : JobData) (D : ℕ) (q : Poly (job_ring job))
+        (fs : List (Poly (job_ring job))) → IsLawfulJob job →
+        IsMonicInput (job_ring job) D job.expr q →
+        (IsFactors job D fs ↔ IsFactorList D q job.roots fs) }
     ensures accepted { (job : JobData) → IsAccepted job → IsLawfulJob job }
 {}

@@ -8,7 +8,7 @@ ghost use Rattle.ps_model.specs.Keys.{Powers, weighted, key_compare, add_keys, y
 ghost use Rattle.ps_model.specs.SeriesRing.{SeriesRing, ring, Poly, PartMap, Row};
 ghost use Rattle.ps_model.specs.Notation.{zero, one, monomial, of_map, sum, scaled, product};
 ghost use Rattle.ps_model.specs.Notation.{sum_to, coefficient, constant_term, truncated};
-ghost use Rattle.ps_model.specs.Notation.{homogeneous_part, slice_at};
+ghost use Rattle.ps_model.specs.Notation.{homogeneous_part, y_coefficient, slice_at};
 ghost use Rattle.ps_model.specs.Bounds.{HasNoPowerAbove, HasNoDegreeAbove, IsMonic, IsUnit};
 ghost use Rattle.ps_model.specs.Bounds.{ExactlyOne};
 ghost use Rattle.ps_model.specs.Prepared.{IsPreparable, IsPrepared};
@@ -75,7 +75,8 @@ pub fn prepared_row_laws()
         (polynomial_of_rows (ring S) (rows_u ++ row_u ∷ [])) }
 {}
 
-/// Slices of a product, coefficients of a slice, and that slices fix a polynomial up to a degree.
+/// Slices of a product, coefficients of a slice, slices of the coefficient of a power of Y, and that
+/// slices fix a polynomial up to a degree.
 pub fn slice_laws()
     ensures of_product { (S : SeriesRing) (r j : ℕ) (p q : Poly S) →
         slice_at r j (product p q)
@@ -84,6 +85,8 @@ pub fn slice_laws()
         weighted S.variables S.weights e ≡ r →
         coefficient (slice_at r j p) (record { powers = e; y = 0 })
         ≡ coefficient p (record { powers = e; y = j }) }
+    ensures of_coefficient { (S : SeriesRing) (r j : ℕ) (p : Poly S) →
+        slice_at r 0 (y_coefficient j p) ≡ slice_at r j p }
     ensures same { (S : SeriesRing) (D K : ℕ) (p q : Poly S) →
         HasNoPowerAbove K p → HasNoPowerAbove K q →
         ((r j : ℕ) → r ≤ D → j ≤ K → slice_at r j p ≡ slice_at r j q) →

@@ -1,7 +1,8 @@
 //! The definition of a list of factors, as a slow test.
-ghost use Rattle.std.specs.Prelude.{◌≡◌, ℕ, ◌-◌, ◌<◌, ◌≤◌, ◌↔◌, nat_le, filter, map, List, [], ◌∷◌};
+ghost use Rattle.std.specs.Prelude.{◌≡◌, ℕ, ◌-◌, ◌<◌, ◌≤◌, ◌==◌, ◌↔◌, nat_le, filter, map};
+ghost use Rattle.std.specs.Prelude.{List, [], ◌∷◌};
 ghost use Rattle.std.specs.Prelude.{IsTrue, IfOk, All};
-ghost use Rattle.std.specs.FinMap.{FinMap};
+ghost use Rattle.std.specs.FinMap.{FinMap, entries};
 ghost use Rattle.ps_model.specs.Keys.{key_compare, add_keys, y_key};
 ghost use Rattle.ps_model.specs.FiniteMaps.{collected, sum_maps, product_maps};
 ghost use Rattle.ps_model.specs.Notation.{sum, product, truncated};
@@ -9,13 +10,14 @@ ghost use Rattle.ps_model.specs.Bounds.{HasNoDegreeAbove, IsMonic};
 ghost use Rattle.ps_model.specs.Factors.{root_power, product_of, IsFactor, EachIsFactor};
 ghost use Rattle.ps_model.specs.Job.{AreFactorsOf};
 ghost use Rattle.ps_model.specs.Plain.{entry_of, key_of};
-ghost use Rattle.ps_model.specs.PlainLists.{IsInRange, cut_map};
+ghost use Rattle.ps_model.specs.PlainLists.{IsInRange, without_y, y_terms, cut_map};
 ghost use Rattle.ps_model.specs.PlainPolynomial.{plain_polynomial, HasResiduesBelow};
-ghost use Rattle.ps_model.specs.PlainPolynomial.{HasValuesBelow};
+ghost use Rattle.ps_model.specs.PlainPolynomial.{HasValuesBelow, HasKeysWithin};
 ghost use Rattle.ps_model.specs.PlainPolynomial.{y_part, total_powers};
 
 use crate::plain::terms::compare;
 use crate::plain::{PlainPoly, PlainTerm, plain_cut, plain_product};
+use crate::shape::wide_degree;
 use crate::{JobData, OutOfMemory, Root};
 use std::alloc::{AllocError, Global};
 use std::cmp::Ordering;
@@ -219,6 +221,7 @@ fn product_up_to(
     requires in_range { IsInRange (total_powers fs.now) }
     ensures product { IfOk result (λ p. plain_polynomial m weights.now p
         ≡ truncated d (product_of (map (plain_polynomial m weights.now) fs.now))) }
+    ensures within { IfOk result (λ p. HasKeysWithin (total_powers fs.now) p) }
     ensures residues { IfOk result (λ p. HasValuesBelow m p) }
 {
     let one = y_power(alloc, m, 0)?;
@@ -230,10 +233,47 @@ fn product_up_to(
     Ok(product)
 }
 
+/// The terms with Y^k.
+fn terms_at(alloc: Global, terms: &[PlainTerm], k: u64) -> Result<Vec<PlainTerm>, AllocError>
+    ensures { IfOk result (λ v. v.items ≡ filter (λ t. t.y == k) terms.now) }
+{
+    terms
+        .iter()
+        .filter(|t| t.y as u64 == k)
+        .copied()
+        .collect(alloc)
+}
+
+/// The sum of terms without their powers of Y, modulo m.
+fn sum_without_y(alloc: Global, m: u64, terms: &[PlainTerm]) -> Result<PlainPoly, OutOfMemory>
+    requires { 0 < m }
+    ensures { IfOk result (λ p. p
+        ≡ collected (key_compare 8) m (map (λ t. without_y (entry_of t)) terms.now)) }
+{
+    let mut sum = PlainPoly::new(alloc);
+    for i in (0..terms.len()).rev() {
+        let term = &terms[i];
+        sum.add(m, term.coefficient as u128, &PlainTerm { y: 0, ..*term })?;
+    }
+    Ok(sum)
+}
+
+/// The coefficient of Y^k, modulo m.
+fn y_coefficient(alloc: Global, m: u64, a: &PlainPoly, k: u64) -> Result<PlainPoly, OutOfMemory>
+    requires { 0 < m }
+    ensures { IfOk result
+        (λ p. p ≡ collected (key_compare 8) m (y_terms k (entries a.now))) }
+{
+    let terms = terms_at(alloc, a.terms(), k)?;
+    sum_without_y(alloc, m, &terms)
+}
+
 /// Whether fs is the list of factors up to degree d of the input cut at d, by the definition: one
 /// monic factor for each of the job's roots, in their order, at the origin the root's power, with
-/// no entry of degree above d, and their product up to d is the cut input. Degrees are by the job's
-/// weights, of which a 0 counts as 1. It is slow: it multiplies everything out term by term.
+/// no entry of degree above d, and their product, times the coefficient in the cut input of the
+/// power of Y that is the formal degree of the job's tree, is up to d the cut input. Degrees are by
+/// the job's weights, of which a 0 counts as 1. It is slow: it multiplies everything out term by
+/// term.
 pub fn plain_is_factors(
     alloc: Global,
     job: &JobData,
@@ -245,7 +285,7 @@ pub fn plain_is_factors(
     requires roots { All (λ r. r.value < job.now.modulus) job.now.roots }
     requires input_residues { HasResiduesBelow job.now.modulus input.now }
     requires residues { All (HasResiduesBelow job.now.modulus) fs.now }
-    requires in_range { IsInRange (total_powers fs.now) }
+    requires in_range { IsInRange (total_powers (input.now ∷ fs.now)) }
     ensures { IfOk result (λ b. IsTrue b ↔ AreFactorsOf job.now d
         (truncated d (plain_polynomial job.now.modulus job.now.weights input.now))
         (map (plain_polynomial job.now.modulus job.now.weights) fs.now)) }
@@ -255,9 +295,12 @@ pub fn plain_is_factors(
     if !are_factors(alloc, m, weights, job.roots.as_slice(), fs, d)? {
         return Ok(false);
     }
-    let product = product_up_to(alloc, m, weights, fs, d)?;
     let cut = plain_cut(alloc, weights, input, d)?;
-    Ok(same(&product, &cut))
+    let lead = y_coefficient(alloc, m, &cut, wide_degree(&job.expr))?;
+    let product = product_up_to(alloc, m, weights, fs, d)?;
+    let multiple = plain_product(alloc, m, &lead, &product)?;
+    let whole = plain_cut(alloc, weights, &multiple, d)?;
+    Ok(same(&whole, &cut))
 }
 
 /// The plain functions' answers as polynomials modulo m, for all weights: the sum, the product and

@@ -19,7 +19,8 @@ pub expression-returns-in_err-of-clause-moves : goal.expression-returns-in_err-o
 expression-returns-in_err-of-clause-moves t c = λ outer same.
     let p = err_from_is_err_and c.from_residual.result c.from_residual.ensures.1 in
     rw (p.1, p.2) (stops_along (start outer)
-    (operand (fresh c.loop-summands.summands c.loop-summands.minus) outer) c.args.reader.now c.loop-summands.reader c.in_err-of.field-0.0
+    (operand (fresh c.loop-summands.summands c.loop-summands.minus) outer) c.args.reader.now c.loop-summands.reader
+    c.in_err-of.field-0.0
     (c.loop-summands.invariant.moves outer same)
     (c.in_err-of.ensures.moves c.loop-summands.summands c.loop-summands.minus outer same))
 

@@ -11,7 +11,9 @@ use Rattle.expr_reader.proofs.printing.+print.Goals as goal
 
 pub write_expr-loop-summand-init : goal.write_expr-loop-summand-init
 write_expr-loop-summand-init t c =
-    let e : spelling c.args.names.now c.args.expr.now ≡ summand_texts c.args.names.now true c.as_slice-summand-items.result.now = ap (spelling c.args.names.now) c.in-Sum.is ∙ spelling-Sum _ _ ∙ ap (summand_texts c.args.names.now true) (sym c.as_slice-summand-items.ensures) in
+    let e : spelling c.args.names.now c.args.expr.now ≡ summand_texts c.args.names.now true
+    c.as_slice-summand-items.result.now = ap (spelling c.args.names.now) c.in-Sum.is ∙ spelling-Sum _ _
+    ∙ ap (summand_texts c.args.names.now true) (sym c.as_slice-summand-items.ensures) in
     grind (arith, common_steps)
 
 pub write_expr-write_inside-requires : goal.write_expr-write_inside-requires
@@ -23,7 +25,9 @@ write_expr-write_inside-requires t c = (
 
 pub write_expr-loop-factor-init : goal.write_expr-loop-factor-init
 write_expr-loop-factor-init t c =
-    let e : spelling c.args.names.now c.args.expr.now ≡ factor_texts c.args.names.now true c.as_slice-factor-items.result.now = ap (spelling c.args.names.now) c.in-Product.is ∙ spelling-Product _ _ ∙ ap (factor_texts c.args.names.now true) (sym c.as_slice-factor-items.ensures) in
+    let e : spelling c.args.names.now c.args.expr.now ≡ factor_texts c.args.names.now true
+    c.as_slice-factor-items.result.now = ap (spelling c.args.names.now) c.in-Product.is ∙ spelling-Product _ _
+    ∙ ap (factor_texts c.args.names.now true) (sym c.as_slice-factor-items.ensures) in
     grind (arith, common_steps)
 
 pub write_expr-write_inside-requires-in-loop-factor : goal.write_expr-write_inside-requires-in-loop-factor

@@ -27,7 +27,8 @@ returns-in_err-text-in-None-clause-stops c =
 
 pub returns-in_ok-fault_line-in-Some-clause-output : goal.returns-in_ok-fault_line-in-Some-clause-output
 returns-in_ok-fault_line-in-Some-clause-output c = λ input is.
-    let first = subst (λ o. IfSome o (λ f. IsFirstFault (plain_job (plain_view c.args.script.now)) (fault_of f))) c.in-Some.is
+    let first = subst (λ o. IfSome o (λ f. IsFirstFault (plain_job (plain_view c.args.script.now))
+    (fault_of f))) c.in-Some.is
     c.in_ok-fault.ensures.fault in
     refused_reply input c.in_ok-fault_line-in-Some.field-0.items 1 c.args.tally.now
     (subst (λ text. IsOutput factor_words input text 1 0) (sym c.in_ok-fault_line-in-Some.ensures)

@@ -1,4 +1,5 @@
-use Rattle.std.proofs.Common.{◌≤◌, ℕ, List, ◌++◌, ◌∙◌, length, ap, map, arith, rules}
+use Rattle.std.proofs.Common.{◌≤◌, ℕ, List, ◌++◌, ◌∙◌, length, ap, map, sym, arith, rules}
+use Rattle.std.proofs.lemmas.List.{append-nil}
 use Rattle.std.specs.Prelude.{codes, decimal}
 use Rattle.ps_model.specs.BlockText.{newline, factor_texts}
 use Rattle.ps_model.specs.Job.{job_ring}
@@ -28,7 +29,11 @@ loop-i-preserved g c = factors_step (g.F.FactorParts.job c.args.factors.now) c.a
     c.requires.roots c.loop-i.i _ c.loop-i.text.items c.push_factor.new.text.items c.loop-i-test.true
     c.loop-i.invariant c.in_ok-push_factor.ensures
 
+-- no line of a lead stands between the precision and the factors
 pub returns : goal.returns
-returns g c = factors_all (g.F.FactorParts.job c.args.factors.now) c.args.precision
-    (map (λ n. n.now) c.args.names.now) c.args.roots.now (codes "precision " ++ decimal c.args.precision ++ newline)
-    c.loop-i.i c.loop-i.text.items (omega arith) c.loop-i.invariant
+returns g c fs are =
+    let before : List ℕ = codes "precision " ++ decimal c.args.precision ++ newline in
+    factors_all (g.F.FactorParts.job c.args.factors.now) c.args.precision (map (λ n. n.now) c.args.names.now)
+    c.args.roots.now before c.loop-i.i c.loop-i.text.items (omega arith) c.loop-i.invariant fs are
+    ∙ ap (λ (l : List ℕ). l ++ factor_texts (job_ring (g.F.FactorParts.job c.args.factors.now))
+    (map (λ n. n.now) c.args.names.now) c.args.precision 1 c.args.roots.now fs) (sym (append-nil before))

@@ -7,7 +7,10 @@ use Rattle.hensel_tool.proofs.factoring.empty_rows.Goals as goal
 
 pub loop-stage-preserved : goal.loop-stage-preserved
 loop-stage-preserved c =
-    let items : c.push.new.self.items ≡ c.loop-stage.rows.items ++ c.in_ok-new.field-0 ∷ [] = grind (arith, common_steps) in
+    let items : c.push.new.self.items ≡ c.loop-stage.rows.items ++ c.in_ok-new.field-0 ∷ [] = grind (
+      arith,
+      common_steps,
+    ) in
     record {
       count = grind (arith, common_steps);
       empty = each_pushed (λ s row. values row.items.items ≡ []) c.loop-stage.rows.items c.push.new.self.items

@@ -18,5 +18,6 @@ pub returns-clause-block : goal.returns-clause-block
 returns-clause-block c = told_block (plain_view c.args.script.now) c.args.precision c.in_ok-text.text.items _ _ _
     c.requires.form c.requires.valid
     (c.new-known.ensures.job ∙ c.in_ok-line.ensures.job ∙ c.in_ok-job.ensures.ok ∙ c.in_ok-job_of.ensures) refl
-    (c.as_slice-3.ensures ∙ ap (λ j. j.roots) (c.deref.ensures ∙ sym (c.new-known.ensures.job ∙ c.in_ok-line.ensures.job)))
+    (c.as_slice-3.ensures ∙ ap (λ j. j.roots) (c.deref.ensures ∙ sym (c.new-known.ensures.job
+    ∙ c.in_ok-line.ensures.job)))
     c.in_ok-text.ensures

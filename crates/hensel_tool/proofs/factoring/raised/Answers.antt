@@ -15,15 +15,21 @@ raise-requires-clause-permitted g c κs within =
     (ap (λ j. j.weights) same ∙ c.requires.weights) c.requires.low
 
 pub returns-in_err-raise-clause-more : goal.returns-in_err-raise-clause-more
-returns-in_err-raise-clause-more g c = let e = c.in_err-raise.ensures in on_err c.from_residual-in_err-raise.result (c.args.tally.now ≤ c.raise.new.tally)
-    (steps_within (arc_value c.in_ok-try_clone.field-0) c.args.ring _ _ _ c.in-Ok.ensures.states _ e.kept c.args.to c.args.tally.now c.raise.new.tally e.ticks e.err).0
+returns-in_err-raise-clause-more g c = let e = c.in_err-raise.ensures in
+    on_err c.from_residual-in_err-raise.result (c.args.tally.now ≤ c.raise.new.tally)
+    (steps_within (arc_value c.in_ok-try_clone.field-0) c.args.ring _ _ _ c.in-Ok.ensures.states _ e.kept c.args.to
+    c.args.tally.now c.raise.new.tally e.ticks e.err).0
 
 pub returns-in_err-raise-clause-at_most : goal.returns-in_err-raise-clause-at_most
-returns-in_err-raise-clause-at_most g c = let e = c.in_err-raise.ensures in on_err c.from_residual-in_err-raise.result (c.raise.new.tally ≤ c.args.tally.now + length (arc_value c.args.job.now).roots * (1 + c.args.to))
+returns-in_err-raise-clause-at_most g c = let e = c.in_err-raise.ensures in
+    on_err c.from_residual-in_err-raise.result (c.raise.new.tally ≤ c.args.tally.now + length
+    (arc_value c.args.job.now).roots * (1 + c.args.to))
     (subst (λ j. c.raise.new.tally ≤ c.args.tally.now + length j.roots * (1 + c.args.to)) c.in_ok-try_clone.ensures
-    (steps_within (arc_value c.in_ok-try_clone.field-0) c.args.ring _ _ _ c.in-Ok.ensures.states _ e.kept c.args.to c.args.tally.now c.raise.new.tally e.ticks e.err).1)
+    (steps_within (arc_value c.in_ok-try_clone.field-0) c.args.ring _ _ _ c.in-Ok.ensures.states _ e.kept c.args.to
+    c.args.tally.now c.raise.new.tally e.ticks e.err).1)
 
 pub returns-clause-steps : goal.returns-clause-steps
 returns-clause-steps g c = let e = c.in_ok-raise.ensures in
-    steps_done (arc_value c.in_ok-try_clone.field-0) c.args.ring _ _ _ c.in-Ok.ensures.states _ e.kept c.args.to c.args.tally.now c.raise.new.tally e.ticks e.ok
+    steps_done (arc_value c.in_ok-try_clone.field-0) c.args.ring _ _ _ c.in-Ok.ensures.states _ e.kept c.args.to
+    c.args.tally.now c.raise.new.tally e.ticks e.ok
     ∙ ap (λ j. c.args.tally.now + length j.roots * (1 + c.args.to)) c.in_ok-try_clone.ensures

@@ -23,7 +23,8 @@ pub returns-in_default-next_sign : goal.returns-in_default-next_sign
 returns-in_default-next_sign c =
     c.loop-first.invariant
     ∙ ap (with_more c.loop-first.terms)
-    (sum_no_sign c.args.name.now c.loop-first.minus c.loop-first.rest.now _ c.in-Some.ensures c.in_default-next_sign.ensures)
+    (sum_no_sign c.args.name.now c.loop-first.minus c.loop-first.rest.now _ c.in-Some.ensures
+    c.in_default-next_sign.ensures)
 
 pub loop-first-smaller : goal.loop-first-smaller
 loop-first-smaller c = sign_shorter _ _ _ c.in-Some.ensures c.in-Some-next_sign.ensures

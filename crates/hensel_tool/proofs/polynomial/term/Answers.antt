@@ -27,7 +27,8 @@ unfolding term_in
 returns-in_default-factor-2 c =
     c.loop-first.invariant
     ∙ ap (with_more c.loop-first.factors)
-    (each_last_none (factor_in c.args.name.now) 42 c.loop-first.rest.now c.in_default.ensures c.in_default-factor-2.ensures)
+    (each_last_none (factor_in c.args.name.now) 42 c.loop-first.rest.now c.in_default.ensures
+    c.in_default-factor-2.ensures)
 
 pub returns : goal.returns
 unfolding term_in

@@ -4,7 +4,8 @@ use mathlib.Core.Bool.{true≢false}
 use Rattle.std.specs.declared.alloc.Global.{Global}
 use Rattle.hensel_tool.specs.Output.{factor_words, usage_line, not_built}
 use Rattle.hensel_tool.specs.Calls.{IsLeft, Outputs, OutputsPart}
-use Rattle.hensel_tool.proofs.Outputs.{usage_output, long_output, outputs_done, outputs_part, outputs_nothing, spends_of}
+use Rattle.hensel_tool.proofs.Outputs.{usage_output, long_output, outputs_done, outputs_part, outputs_nothing}
+use Rattle.hensel_tool.proofs.Outputs.{spends_of}
 use Rattle.hensel_tool.proofs.Outputs.{some_input}
 use Rattle.hensel_tool.proofs.Outputs.{told_outputs, told_part, status_is, complete_of}
 use Rattle.hensel_tool.proofs.Replies.{no_steps}
@@ -39,7 +40,8 @@ returns-in-Err-clause-part g c = λ _.
     let input = some_input (g.S.Source.left c.args.source.now) in
     let left = g.S.Source.left c.args.source.now in
     let written = g.K.Sink.written c.args.sink.now in
-    subst (λ (words : List (List ℕ)). OutputsPart words left written written c.args.tally.now c.args.tally.now) (sym taken)
+    subst (λ (words : List (List ℕ)). OutputsPart words left written written c.args.tally.now c.args.tally.now)
+    (sym taken)
     (outputs_nothing left written input.0 c.args.tally.now input.1)
 
 -- an input that is too long is refused

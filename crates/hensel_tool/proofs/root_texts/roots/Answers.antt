@@ -8,7 +8,8 @@ pub returns-in_default-root : goal.returns-in_default-root
 unfolding roots_in
 returns-in_default-root c =
     c.loop-first.invariant
-    ∙ ap (with_more c.loop-first.roots) (each_none root_in 32 c.loop-first.rest.now _ c.in-Some.ensures c.in_default-root.ensures)
+    ∙ ap (with_more c.loop-first.roots) (each_none root_in 32 c.loop-first.rest.now _ c.in-Some.ensures
+    c.in_default-root.ensures)
 
 pub loop-first-smaller : goal.loop-first-smaller
 loop-first-smaller c = cut_shorter _ _ _ c.in-Some.ensures
@@ -25,11 +26,13 @@ pub returns-in_default-root-2 : goal.returns-in_default-root-2
 unfolding roots_in
 returns-in_default-root-2 c =
     c.loop-first.invariant
-    ∙ ap (with_more c.loop-first.roots) (each_last_none root_in 32 c.loop-first.rest.now c.in_default.ensures c.in_default-root-2.ensures)
+    ∙ ap (with_more c.loop-first.roots) (each_last_none root_in 32 c.loop-first.rest.now c.in_default.ensures
+    c.in_default-root-2.ensures)
 
 pub returns : goal.returns
 unfolding roots_in
 returns c =
     c.loop-first.invariant
-    ∙ ap (with_more c.loop-first.roots) (each_last root_in 32 c.loop-first.rest.now _ c.in_default.ensures c.in-Some-root-2.ensures)
+    ∙ ap (with_more c.loop-first.roots) (each_last root_in 32 c.loop-first.rest.now _ c.in_default.ensures
+    c.in-Some-root-2.ensures)
     ∙ ap (λ rs. Some rs) (sym c.in_ok-push-2.ensures.ok)

@@ -1,6 +1,6 @@
 use Rattle.std.proofs.Common.{◌≡◌, ◌+◌, ◌≤◌, drop}
 use Rattle.ps_model.specs.Factors.{total_times}
-use Rattle.ps_model.specs.Job.{told_count}
+use Rattle.ps_model.specs.Input.{told_count}
 use Rattle.hensel_tool.proofs.roots.total_times.Given as goal
 
 abbrev pub invariant-loop-root : goal.invariant-loop-root

@@ -10,7 +10,8 @@ pub loop-low-preserved-in-Less : goal.loop-low-preserved-in-Less
 loop-low-preserved-in-Less c = record {
   inside = c.loop-low.invariant.inside;
   below = all_below (key_of c.args.at.now) c.args.terms.now
-      (c.loop-low.low + (c.loop-low.high - c.loop-low.low) / 2) c.index-terms-middle.result c.requires.0 (omega arith) (sym (c.in-Less.ensures ∙
+      (c.loop-low.low + (c.loop-low.high - c.loop-low.low) / 2) c.index-terms-middle.result c.requires.0 (omega arith)
+      (sym (c.in-Less.ensures ∙
       ap (λ (t : Term). key_compare 8 (key_of t.monomial) (key_of c.args.at.now)) c.index-terms-middle.is));
   above = c.loop-low.invariant.above;
 }

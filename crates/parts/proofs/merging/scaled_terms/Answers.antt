@@ -22,7 +22,8 @@ loop-t-preserved c = record {
   where
     value : (c.from.result * c.from-in-loop-t.result) % c.from-m.result ≡
         (c.args.c * (get_or c.args.a.now c.loop-t.t-index c.t-item.result).coefficient) % modulus_of c.args.ring
-    value = λ i. (c.from.ensures i * (c.from-in-loop-t.ensures ∙ ap (λ (t : Term). t.coefficient) c.t-item.is) i) % (c.from-m.ensures ∙ c.value.ensures.number ∙
+    value = λ i. (c.from.ensures i * (c.from-in-loop-t.ensures
+        ∙ ap (λ (t : Term). t.coefficient) c.t-item.is) i) % (c.from-m.ensures ∙ c.value.ensures.number ∙
         c.modulus.ensures) i
 
     next : AreTermsOf c.args.ring c.args.degree (drop (c.loop-t.t-index + 1) c.args.a.now) ×
@@ -36,7 +37,8 @@ loop-t-preserved c = record {
               (c.from.result * c.from-in-loop-t.result) % c.from-m.result;
         }))
     next = scaled_at c.args.ring c.args.degree (λ f. c.args.c * terms_total f c.args.a.now) c.loop-t.terms.items
-        c.args.a.now c.loop-t.t-index c.t-item.result c.args.c ((c.from.result * c.from-in-loop-t.result) % c.from-m.result)
+        c.args.a.now c.loop-t.t-index c.t-item.result c.args.c
+        ((c.from.result * c.from-in-loop-t.result) % c.from-m.result)
         (omega arith) c.loop-t.invariant.built c.loop-t.invariant.a_terms value
 
 pub returns : goal.returns

@@ -40,5 +40,6 @@ loop-t-preserved c = record {
     moved f = ap (λ m. cells_total f 0 c.add_row.new.cells % m) (sym c.requires.of_modulus) ∙
         c.add_row.ensures.totals f ∙
         (λ i. (cells_total f 0 c.loop-t.cells + row_total f
-        ((c.place.ensures ∙ ap (λ (t : Term). dot c.args.sizes.now t.monomial.powers) c.t-item.is) i) c.if-minus.c c.args.row.now) %
+        ((c.place.ensures ∙ ap (λ (t : Term). dot c.args.sizes.now t.monomial.powers) c.t-item.is) i) c.if-minus.c
+        c.args.row.now) %
         (c.requires.of_modulus i))

@@ -1,4 +1,5 @@
-use Rattle.std.proofs.Common.{◌≡◌, ℕ, ◌-◌, ◌+◌, ◌%◌, ◌∙◌, ◌++◌, ◌∷◌, [], ap, sym, arith, length, drop, get_or, map, cond, is_ok, not}
+use Rattle.std.proofs.Common.{◌≡◌, ℕ, ◌-◌, ◌+◌, ◌%◌, ◌∙◌, ◌++◌, ◌∷◌, [], ap, sym, arith, length, drop, get_or, map}
+use Rattle.std.proofs.Common.{cond, is_ok, not}
 use Rattle.std.specs.Prelude.{Some, None}
 use Rattle.std.specs.Option.{option_map}
 use Rattle.parts.specs.Places.{powers_at}

@@ -12,7 +12,8 @@ use Rattle.parts.proofs.sparse.row_terms.Goals as goal
 pub times-requires : goal.times-requires
 times-requires c =
     λ i lt. subst (λ (t : Term). get_or c.args.x.now.monomial.powers i 0 + get_or t.monomial.powers i 0 < 2 ^ 16)
-    (sym c.t-item.is) (powers_fit c.args.ring c.args.left c.args.right c.args.terms.now c.args.x.now c.loop-t.t-index c.t-item.result
+    (sym c.t-item.is) (powers_fit c.args.ring c.args.left c.args.right c.args.terms.now c.args.x.now c.loop-t.t-index
+    c.t-item.result
     c.requires.x_terms c.loop-t.invariant.rest (omega arith) c.requires.low i lt)
 
 pub loop-t-preserved : goal.loop-t-preserved
@@ -28,7 +29,8 @@ loop-t-preserved c = record {
   where
     value : (c.from.result * c.from-in-loop-t.result) % c.from-m.result ≡
         (c.args.c * (get_or c.args.terms.now c.loop-t.t-index c.t-item.result).coefficient) % modulus_of c.args.ring
-    value = λ i. (c.from.ensures i * (c.from-in-loop-t.ensures ∙ ap (λ (t : Term). t.coefficient) c.t-item.is) i) % (c.from-m.ensures ∙ c.value.ensures.number ∙
+    value = λ i. (c.from.ensures i * (c.from-in-loop-t.ensures
+        ∙ ap (λ (t : Term). t.coefficient) c.t-item.is) i) % (c.from-m.ensures ∙ c.value.ensures.number ∙
         c.modulus.ensures) i
 
     next : AreTermsOf c.args.ring c.args.right (drop (c.loop-t.t-index + 1) c.args.terms.now) ×

@@ -1,4 +1,4 @@
-use Rattle.std.proofs.Common.{◌≡◌, ℕ, List, [], ◌∷◌, refl, lit<}
+use Rattle.std.proofs.Common.{◌≡◌, ℕ, ◌<◌, List, [], ◌∷◌, refl, lit<, lit≤}
 use Rattle.ps_model.specs.declared.expr.Expr.TheBlock.{hidden-the_row-Summand-0, shape-the_row-Summand-0}
 use Rattle.ps_model.specs.declared.expr.Expr.TheBlock.{hidden-the_row-Factor-1, shape-the_row-Factor-1}
 use Rattle.ps_model.specs.declared.expr.Expr.TheBlock.{hidden-the_row-Expr-2}
@@ -6,12 +6,16 @@ use denote.Hole.Carrier.{hidden}
 use Rattle.ps_model.specs.Keys.{Key}
 use Rattle.ps_model.specs.Polynomial.{polynomial}
 use Rattle.ps_model.specs.SeriesRing.{SeriesRing, ring, Poly}
+use Rattle.std.proofs.lemmas.List.Elements.{All-cons, All-nil}
+use Rattle.ps_model.specs.declared.job.Root.{Root}
 use Rattle.ps_model.specs.Job.{series_ring, job_ring, IsFactors}
+use Rattle.ps_model.specs.AcceptedJob.{IsLawfulJob}
 use Rattle.ps_model.specs.Examples.{root, key, split, split_job, split_factors, double_root_job}
 use Rattle.ps_model.specs.Examples.{double_root_factors, double_root_start}
 use Rattle.ps_model.proofs.Evaluated.{evaluated, is_value}
-use Rattle.ps_model.proofs.FactorSums.{is_factor, product_is, only_factors}
-use Rattle.ps_model.proofs.AtOrigin.{unit}
+use Rattle.ps_model.proofs.FactorSums.{is_factor, product_is}
+use Rattle.ps_model.proofs.JobFactors.{same_factors}
+use Rattle.ps_model.proofs.ValidJobs.{split_valid}
 use Rattle.ps_model.proofs.examples.factors.Goals as goal
 
 abbrev S : SeriesRing
@@ -31,15 +35,23 @@ split_is = record {
   is_value = is_value S 1 split tt;
   are_factors = record {
     each = (is_factor S 1 (root 0 1) first refl refl refl, (is_factor S 1 (root 1 1) second refl refl refl, tt));
-    product_is = product_is S 1 (first ∷ second ∷ []) (evaluated S 1 split) refl;
+    product_is = product_is S 1 2 (first ∷ second ∷ []) (evaluated S 1 split) refl;
   };
 }
 
-only : (fs : List (Poly S)) → IsFactors split_job 1 fs → fs ≡ split_factors
+split_lawful : IsLawfulJob split_job
 unfolding series_ring hidden-the_row-Summand-0 shape-the_row-Summand-0 hidden-the_row-Factor-1 shape-the_row-Factor-1
     hidden-the_row-Expr-2 hidden
-only fs is = only_factors split_job 1 tt refl refl
-    (lit< tt, (unit 15 14 14 (lit< tt) refl, tt), (lit< tt, tt, tt)) fs split_factors is split_is
+split_lawful = record {
+  modulus = lit≤ tt;
+  tree = (tt, ((tt, lit≤ tt), (tt, (lit< tt, tt))));
+  residues = All-cons (λ (r : Root). r.value < 15) (root 0 1) (root 1 1 ∷ []) (lit< tt)
+      (All-cons (λ (r : Root). r.value < 15) (root 1 1) [] (lit< tt) (All-nil (λ (r : Root). r.value < 15)));
+  valid = split_valid;
+}
+
+only : (fs : List (Poly S)) → IsFactors split_job 1 fs → fs ≡ split_factors
+only fs is = same_factors split_job split_lawful 1 fs split_factors is split_is
 
 abbrev R : SeriesRing
 R = job_ring double_root_job
@@ -64,7 +76,7 @@ double = record {
       is_factor R 3 (root 0 2) square_and_x refl refl refl,
       (is_factor R 3 (root 1 1) linear refl refl refl, tt),
     );
-    product_is = product_is R 3 (square_and_x ∷ linear ∷ []) (evaluated R 3 double_root_job.expr) refl;
+    product_is = product_is R 3 3 (square_and_x ∷ linear ∷ []) (evaluated R 3 double_root_job.expr) refl;
   };
 }
 
@@ -79,7 +91,7 @@ start = record {
       is_factor R 0 (root 0 2) square refl refl refl,
       (is_factor R 0 (root 1 1) linear refl refl refl, tt),
     );
-    product_is = product_is R 0 (square ∷ linear ∷ []) (evaluated R 0 double_root_job.expr) refl;
+    product_is = product_is R 0 3 (square ∷ linear ∷ []) (evaluated R 0 double_root_job.expr) refl;
   };
 }
 

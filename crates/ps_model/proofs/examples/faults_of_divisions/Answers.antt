@@ -14,7 +14,8 @@ use Rattle.ps_model.specs.SeriesRing.{ring, Poly}
 use Rattle.ps_model.specs.Value.{IsValue}
 use Rattle.ps_model.specs.Notation.{constant_term}
 use Rattle.ps_model.specs.Divisions.{Fails}
-use Rattle.ps_model.specs.Job.{job_ring, series_ring, IsFault, DividesByY}
+use Rattle.ps_model.specs.Input.{DividesByY}
+use Rattle.ps_model.specs.Job.{job_ring, series_ring, OfInput, IsFault}
 use Rattle.ps_model.specs.Examples.{job, root, x, number, divided, added, one_over_x, one_over_two_plus_x}
 use Rattle.ps_model.specs.Examples.{double_division, ring_modulo}
 use Rattle.ps_model.proofs.Coefficients.{coefficient-polynomial}
@@ -35,16 +36,16 @@ double = job 7 double_division (root 0 1 ∷ [])
 without_y : (d e : Expr) → has_y e ≡ false → d ≡ e → has_y d ≡ true → ⊥
 without_y d e none is has = let p : true ≡ false = sym has ∙ ap has_y is ∙ none in absurd (cc)
 
-single_by_y : (k : ℕ) → IsFault single (DividesByY k) → ⊥
+single_by_y : (k : ℕ) → IsFault single (OfInput (DividesByY k)) → ⊥
 unfolding hidden-the_row-Summand-0 shape-the_row-Summand-0 hidden-the_row-Factor-1 shape-the_row-Factor-1 hidden
 single_by_y k ((d, (some, at), has), least) = without_y d x refl ((one_member x d (k - 1) at).1) has
 
-composite_by_y : (k : ℕ) → IsFault composite (DividesByY k) → ⊥
+composite_by_y : (k : ℕ) → IsFault composite (OfInput (DividesByY k)) → ⊥
 unfolding hidden-the_row-Summand-0 shape-the_row-Summand-0 hidden-the_row-Factor-1 shape-the_row-Factor-1 hidden
 composite_by_y k ((d, (some, at), has), least) =
     let below = added (number 2) x in without_y d below refl ((one_member below d (k - 1) at).1) has
 
-double_by_y : (k : ℕ) → IsFault double (DividesByY k) → ⊥
+double_by_y : (k : ℕ) → IsFault double (OfInput (DividesByY k)) → ⊥
 unfolding hidden-the_row-Summand-0 shape-the_row-Summand-0 hidden-the_row-Factor-1 shape-the_row-Factor-1 hidden
 double_by_y k ((d, (some, at), has), least) = elim (two_members (divided (number 1) x) x d (k - 1) at) [
   | inl p ↦ without_y d (divided (number 1) x) refl (p.1) has
@@ -79,11 +80,11 @@ pub returns : goal.returns
 unfolding series_ring hidden-the_row-Summand-0 shape-the_row-Summand-0 hidden-the_row-Factor-1 shape-the_row-Factor-1
     hidden-the_row-Expr-2 hidden
 returns c = record {
-  by_x = first_not_unit single single_by_y (lit≤ tt) (lit≤ tt) (1, 0, refl, refl, refl) 1 0 7
+  by_x = first_not_unit single single_by_y (lit≤ tt) (lit≤ tt) 1 0 7
       (let f = fails single 1 x tt (lit< tt, refl) no_zero in (f, ((0, f), positive single), gcd_zero));
-  double = first_not_unit double double_by_y (lit≤ tt) (lit≤ tt) (1, 0, refl, refl, refl) 2 0 7
+  double = first_not_unit double double_by_y (lit≤ tt) (lit≤ tt) 2 0 7
       (let f = fails double 2 x tt (lit< tt, refl) no_zero in (f, ((0, f), second), gcd_zero));
-  two = first_not_unit composite composite_by_y (lit≤ tt) (lit≤ tt) (1, 0, refl, refl, refl) 1 2 2
+  two = first_not_unit composite composite_by_y (lit≤ tt) (lit≤ tt) 1 2 2
       (let f = fails composite 1 (added (number 2) x) tt (lit< tt, refl) no_two in
       (f, ((2, f), positive composite), gcd_two));
 }

@@ -6,9 +6,8 @@ use denote.Hole.Carrier.{hidden}
 use Rattle.ps_model.specs.declared.expr.Expr.{Expr}
 use Rattle.ps_model.specs.Divisions.{IsByY}
 use Rattle.ps_model.specs.Job.{series_ring}
-use Rattle.ps_model.specs.Examples.{job, root, y, raised, y_plus_one, tower, two_y_squared, one_over_y}
-use Rattle.ps_model.proofs.Leads.{not_one}
-use Rattle.ps_model.proofs.FaultOrder.{no_division_by_y, first_by_y, first_nodes, first_degree, first_not_monic}
+use Rattle.ps_model.specs.Examples.{job, root, y, raised, y_plus_one, tower, one_over_y}
+use Rattle.ps_model.proofs.FaultOrder.{no_division_by_y, first_by_y, first_nodes, first_degree}
 use Rattle.ps_model.proofs.examples.faults_of_form.Goals as goal
 
 -- divisions are counted from 1
@@ -26,6 +25,4 @@ returns c = record {
       first_nodes j (no_division_by_y j refl) 4294967295 (lit< tt, refl));
   degree = (let j = job 7 (raised y_plus_one 40) (root 6 40 ∷ []) in
       first_degree j (no_division_by_y j refl) (lit≤ tt) 40 (lit< tt, refl));
-  not_monic = (let j = job 7 two_y_squared (root 0 2 ∷ []) in
-      first_not_monic j (no_division_by_y j refl) (lit≤ tt) (lit≤ tt) not_one);
 }

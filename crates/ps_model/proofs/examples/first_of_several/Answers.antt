@@ -14,10 +14,11 @@ use Rattle.ps_model.specs.declared.job.Root.{Root}
 use Rattle.ps_model.specs.Bounds.{IsUnit}
 use Rattle.ps_model.specs.Tree.{has_y}
 use Rattle.ps_model.specs.Divisions.{IsByY, Fails}
-use Rattle.ps_model.specs.Job.{job_ring, series_ring, IsPairTooNear, IsFault, DividesByY}
+use Rattle.ps_model.specs.Input.{DividesByY}
+use Rattle.ps_model.specs.Job.{job_ring, series_ring, OfInput, IsPairTooNear, IsFault}
 use Rattle.ps_model.specs.Examples.{job, root, x, y, over_x_and_y, power_zero_of_quotient, fourth_power_plus_x}
 use Rattle.ps_model.proofs.FaultOrder.{one_member, no_division_by_y, first_by_y, first_not_unit, first_not_apart}
-use Rattle.ps_model.proofs.AtOrigin.{fails, no_zero, gcd_zero, unit}
+use Rattle.ps_model.proofs.AtOrigin.{fails, no_zero, gcd_zero, unit, unit_lead}
 use Rattle.ps_model.proofs.examples.first_of_several.Goals as goal
 
 without_y : (d e : Expr) → has_y e ≡ false → d ≡ e → has_y d ≡ true → ⊥
@@ -36,7 +37,7 @@ second (suc (suc k)) h = omega arith
 abbrev powered : JobData
 powered = job 7 power_zero_of_quotient (root 0 1 ∷ [])
 
-powered_by_y : (k : ℕ) → IsFault powered (DividesByY k) → ⊥
+powered_by_y : (k : ℕ) → IsFault powered (OfInput (DividesByY k)) → ⊥
 unfolding series_ring hidden-the_row-Summand-0 shape-the_row-Summand-0 hidden-the_row-Factor-1 shape-the_row-Factor-1
     hidden-the_row-Expr-2 hidden
 powered_by_y k ((d, (some, at), has), least) = without_y d x refl ((one_member x d (k - 1) at).1) has
@@ -79,10 +80,10 @@ unfolding series_ring hidden-the_row-Summand-0 shape-the_row-Summand-0 hidden-th
     hidden-the_row-Expr-2 hidden
 returns c = record {
   by_y = first_by_y (job 7 over_x_and_y (root 0 1 ∷ [])) 2 ((y, (lit< tt, refl), refl), second);
-  power_zero = first_not_unit powered powered_by_y (lit≤ tt) (lit≤ tt) (1, 0, refl, refl, refl) 1 0 7
+  power_zero = first_not_unit powered powered_by_y (lit≤ tt) (lit≤ tt) 1 0 7
       (let f = fails powered 1 x tt (lit< tt, refl) no_zero in (f, ((0, f), positive powered), gcd_zero));
-  pair = first_not_apart four (no_division_by_y four refl) (lit≤ tt) (lit≤ tt)
-      (1, 0, inr (lit< tt, 1, refl, refl), refl, refl) refl refl 1 4 4 2 (
+  pair = first_not_apart four (no_division_by_y four refl) (lit≤ tt) (lit≤ tt) refl
+      (unit_lead four tt (unit 6 1 1 (lit< tt) refl)) refl 1 4 4 2 (
         (root 0 1, root 2 1, lit< tt, lit< tt, refl, refl, refl, no_four),
         gcd_four,
         first_pair,

@@ -9,7 +9,8 @@ use Rattle.ps_model.specs.SeriesRing.{SeriesRing, ring}
 use Rattle.ps_model.specs.Notation.{truncated}
 use Rattle.ps_model.specs.Job.{series_ring, job_ring, IsFactors}
 use Rattle.ps_model.specs.BlockText.{power_line}
-use Rattle.ps_model.specs.Examples.{root, degree_of, two_variables, four_terms, two_of_four, weighted_job, weighted_terms}
+use Rattle.ps_model.specs.Examples.{root, degree_of, two_variables, four_terms, two_of_four, weighted_job}
+use Rattle.ps_model.specs.Examples.{weighted_terms}
 use Rattle.ps_model.specs.Examples.{weighted_factors}
 use Rattle.ps_model.proofs.FormalSums.{same_sums}
 use Rattle.ps_model.proofs.Evaluated.{truncated_listed}

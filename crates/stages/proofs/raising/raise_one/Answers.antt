@@ -4,7 +4,8 @@ use Rattle.std.specs.Arc.{arc_value}
 use Rattle.parts.specs.RowsOfParts.{parts_of}
 use Rattle.stages.specs.Items.{IsItem}
 use Rattle.stages.specs.Slices.{IsUpstream}
-use Rattle.stages.proofs.Growth.{of_stage, room_at, title_is, grow_at, falling_at, tick_at, now_at, grows_after, put_more}
+use Rattle.stages.proofs.Growth.{of_stage, room_at, title_is, grow_at, falling_at, tick_at, now_at, grows_after}
+use Rattle.stages.proofs.Growth.{put_more}
 use Rattle.stages.proofs.Upstreams.{first_upstream, next_upstream, left_upstream}
 use Rattle.stages.proofs.raising.raise_one.Goals as goal
 
@@ -55,7 +56,8 @@ returns-in_ok-row-clause-grow g c =
 
 pub returns-in_ok-row-clause-falling : goal.returns-in_ok-row-clause-falling
 returns-in_ok-row-clause-falling g c =
-    falling_at _ c.args.stages.now c.args.s c.index-stages-s.result c.requires.stage c.args.r _ c.requires.next c.requires.before
+    falling_at _ c.args.stages.now c.args.s c.index-stages-s.result c.requires.stage c.args.r _ c.requires.next
+    c.requires.before
     (grows_after c.advance.result c.args.r _ _
     (of_stage _ c.args.stages.now c.args.s c.index-stages-s.result c.requires.stage (λ s. length s.items ≡ c.args.r)
     c.requires.next)
@@ -84,11 +86,14 @@ returns-in_ok-item-clause-grow g c =
 
 pub returns-in_ok-item-clause-falling : goal.returns-in_ok-item-clause-falling
 returns-in_ok-item-clause-falling g c =
-    falling_at _ c.args.stages.now c.args.s c.index-stages-s-else-s-eq0-2.result c.requires.stage c.args.r _ c.requires.next c.requires.before
+    falling_at _ c.args.stages.now c.args.s c.index-stages-s-else-s-eq0-2.result c.requires.stage c.args.r _
+    c.requires.next c.requires.before
     (grows_after c.advance-else-s-eq0.result c.args.r _ _
-    (of_stage _ c.args.stages.now c.args.s c.index-stages-s-else-s-eq0-2.result c.requires.stage (λ s. length s.items ≡ c.args.r)
+    (of_stage _ c.args.stages.now c.args.s c.index-stages-s-else-s-eq0-2.result c.requires.stage
+    (λ s. length s.items ≡ c.args.r)
     c.requires.next)
-    c.advance-else-s-eq0.ensures.kept c.advance-else-s-eq0.ensures.ok c.advance-else-s-eq0.ensures.err c.advance-else-s-eq0.new.self.ahead)
+    c.advance-else-s-eq0.ensures.kept c.advance-else-s-eq0.ensures.ok c.advance-else-s-eq0.ensures.err
+    c.advance-else-s-eq0.new.self.ahead)
 
 pub returns-in_ok-item-clause-ok : goal.returns-in_ok-item-clause-ok
 returns-in_ok-item-clause-ok g c = on_ok_weaker c.advance-else-s-eq0.result

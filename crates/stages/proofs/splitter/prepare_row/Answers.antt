@@ -10,5 +10,6 @@ returns-in_ok-step-in-Some-clause-ok c =
 
 pub returns-in_ok-begin-in-None-clause-ok : goal.returns-in_ok-begin-in-None-clause-ok
 returns-in_ok-begin-in-None-clause-ok c =
-    subst (λ o. IsNextPreparation c.args.ring c.args.times (parts_of c.args.row.now) o (Some c.in_ok-begin-in-None.field-0))
+    subst (λ o. IsNextPreparation c.args.ring c.args.times (parts_of c.args.row.now) o
+    (Some c.in_ok-begin-in-None.field-0))
     (sym c.in-None.is) (c.in_ok-begin-in-None.field-0, refl, c.in_ok-begin-in-None.ensures.ok)

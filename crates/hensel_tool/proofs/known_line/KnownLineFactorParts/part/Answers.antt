@@ -8,7 +8,8 @@ use Rattle.hensel_tool.proofs.StageParts.{long, factor_part}
 use Rattle.hensel_tool.proofs.known_line.KnownLineFactorParts.part.Goals as goal
 
 pub item-requires-clause-stage : goal.item-requires-clause-stage
-item-requires-clause-stage c = λ κs. let count = c.stages-stages.ensures.count in let job = c.stages-stages.ensures.job in
+item-requires-clause-stage c = λ κs. let count = c.stages-stages.ensures.count in let job =
+    c.stages-stages.ensures.job in
     let low = c.requires.factor in omega arith
 
 pub item-requires-clause-degree : goal.item-requires-clause-degree

@@ -9,7 +9,8 @@ use Rattle.parts.proofs.homogeneous.Part.variable.Goals as goal
 
 pub single-requires : goal.single-requires
 single-requires c =
-    subst (λ d. IsKeyOf (weights_of c.args.ring) d (key_from (set (replicate 8 0) c.args.i 1))) (sym c.weight.ensures.weight)
+    subst (λ d. IsKeyOf (weights_of c.args.ring) d (key_from (set (replicate 8 0) c.args.i 1)))
+    (sym c.weight.ensures.weight)
     (variable_key_is (weights_of c.args.ring) c.args.i (omega (arith, long)) (omega (arith, long)))
   where
     few : c.args.ring.n ≤ 8

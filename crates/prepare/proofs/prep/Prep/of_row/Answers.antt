@@ -26,7 +26,10 @@ begun c p_items u_items =
 
 pub invariant_of-result : goal.invariant_of-result
 invariant_of-result c =
-    (begun (goal.at.invariant_of-result c).After-push-2 (grind (arith, common_steps)) (grind (arith, common_steps))).is_prep
+    (begun (goal.at.invariant_of-result c).After-push-2 (grind (arith, common_steps)) (grind (
+      arith,
+      common_steps,
+    ))).is_prep
 
 pub returns : goal.returns
 returns c = (begun (goal.at.returns c).After-push-2 (grind (arith, common_steps)) (grind (arith, common_steps))).begins

@@ -10,6 +10,7 @@ invariant_of-result c = passing_in_order (λ k. nat_le (plain_degree c.args.weig
     c.terms.ensures.in_order c.in_ok-terms.ensures
 
 pub returns : goal.returns
-returns c = map_passing (λ k. nat_le (plain_degree c.args.weights.now k) c.args.d) c.terms.result.now c.in_ok-terms.terms.items
+returns c = map_passing (λ k. nat_le (plain_degree c.args.weights.now k) c.args.d) c.terms.result.now
+    c.in_ok-terms.terms.items
     c.args.a.now
     (map_listed c.terms.result.now c.args.a.now c.terms.ensures.listed) c.in_ok-terms.ensures

@@ -8,7 +8,8 @@ use Rattle.ps_model.proofs.plain.factors.is_at_origin.Goals as goal
 pub returns : goal.returns
 returns c = rewritten c.same.result (plain_polynomial c.args.m c.args.weights.now c.in_ok-low.low)
     (plain_polynomial c.args.m c.args.weights.now c.in_ok-expected.expected) _ _
-    (ap (plain_polynomial c.args.m c.args.weights.now) c.in_ok-low.ensures ∙ cut_polynomial c.args.m c.args.weights.now 0 c.args.f.now)
+    (ap (plain_polynomial c.args.m c.args.weights.now) c.in_ok-low.ensures
+    ∙ cut_polynomial c.args.m c.args.weights.now 0 c.args.f.now)
     (c.in_ok-expected.ensures.power c.args.weights.now)
     (c.same.ensures.polynomials c.args.m c.args.weights.now c.requires.modulus
     (subst (HasValuesBelow c.args.m) (sym c.in_ok-low.ensures)

@@ -13,5 +13,6 @@ pub returns : goal.returns
 returns c = factor_tested c.args.m c.args.weights.now c.args.d c.args.root.now c.args.f.now c.in_ok-is_monic.field-0
     c.in_ok-is_at_origin.field-0
     c.is_within.result c.requires.modulus (values_below c.args.m c.requires.modulus c.args.f.now c.requires.residues)
-    c.if-not-branch.false (c.in_ok-is_monic.ensures c.args.weights.now) c.if-not-branch-2.false c.in_ok-is_at_origin.ensures
+    c.if-not-branch.false (c.in_ok-is_monic.ensures c.args.weights.now) c.if-not-branch-2.false
+    c.in_ok-is_at_origin.ensures
     c.is_within.ensures

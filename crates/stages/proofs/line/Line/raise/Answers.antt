@@ -42,7 +42,8 @@ invariant_of-self-clause-of_job g c = of_stages _ _ _
 
 pub returns-in_err-raise_all-clause-kept : goal.returns-in_err-raise_all-clause-kept
 returns-in_err-raise_all-clause-kept g c = raised_kept (c.args.to + 1) _ _
-    (raised_on _ c.loop-r.self.stages _ _ c.deref_mut.ensures.value (c.args.to + 1) c.loop-r.r _ _ _ _ (omega arith) c.loop-r.invariant.raised
+    (raised_on _ c.loop-r.self.stages _ _ c.deref_mut.ensures.value (c.args.to + 1) c.loop-r.r _ _ _ _
+    (omega arith) c.loop-r.invariant.raised
     c.in_err-raise_all.ensures.grow c.in_err-raise_all.ensures.falling c.in_err-raise_all.ensures.ticks).grow
 
 pub returns-in_err-raise_all-clause-falling : goal.returns-in_err-raise_all-clause-falling
@@ -53,13 +54,15 @@ returns-in_err-raise_all-clause-falling g c =
 
 pub returns-in_err-raise_all-clause-err : goal.returns-in_err-raise_all-clause-err
 returns-in_err-raise_all-clause-err g c = on_err _ _ (raised_within (c.args.to + 1) _ _
-    (raised_on _ c.loop-r.self.stages _ _ c.deref_mut.ensures.value (c.args.to + 1) c.loop-r.r _ _ _ _ (omega arith) c.loop-r.invariant.raised
+    (raised_on _ c.loop-r.self.stages _ _ c.deref_mut.ensures.value (c.args.to + 1) c.loop-r.r _ _ _ _
+    (omega arith) c.loop-r.invariant.raised
     c.in_err-raise_all.ensures.grow c.in_err-raise_all.ensures.falling c.in_err-raise_all.ensures.ticks).grow)
 
 pub returns-in_err-raise_all-clause-ticks : goal.returns-in_err-raise_all-clause-ticks
 returns-in_err-raise_all-clause-ticks g c =
     (raised_on _ c.loop-r.self.stages _ _ c.deref_mut.ensures.value (c.args.to + 1) c.loop-r.r _ _ _ _ (omega arith)
-    c.loop-r.invariant.raised c.in_err-raise_all.ensures.grow c.in_err-raise_all.ensures.falling c.in_err-raise_all.ensures.ticks).ticks
+    c.loop-r.invariant.raised c.in_err-raise_all.ensures.grow c.in_err-raise_all.ensures.falling
+    c.in_err-raise_all.ensures.ticks).ticks
 
 pub returns-in_err-raise_all-clause-there : goal.returns-in_err-raise_all-clause-there
 returns-in_err-raise_all-clause-there g c = λ have. absurd (c.in_err-raise_all.ensures.err (have_now _
@@ -67,9 +70,12 @@ returns-in_err-raise_all-clause-there g c = λ have. absurd (c.in_err-raise_all.
 
 pub loop-r-preserved : goal.loop-r-preserved
 loop-r-preserved g c = record {
-  raised = raised_on _ c.loop-r.self.stages _ _ c.deref_mut.ensures.value (c.args.to + 1) c.loop-r.r _ _ _ _ (omega arith)
-      c.loop-r.invariant.raised c.in_ok-raise_all.ensures.grow c.in_ok-raise_all.ensures.falling c.in_ok-raise_all.ensures.ticks;
-  have = have_on _ c.loop-r.self.stages _ _ c.deref_mut.ensures.value _ c.in_ok-raise_all.ensures.grow c.in_ok-raise_all.ensures.ok;
+  raised = raised_on _ c.loop-r.self.stages _ _ c.deref_mut.ensures.value (c.args.to + 1) c.loop-r.r _ _ _ _
+      (omega arith)
+      c.loop-r.invariant.raised c.in_ok-raise_all.ensures.grow c.in_ok-raise_all.ensures.falling
+      c.in_ok-raise_all.ensures.ticks;
+  have = have_on _ c.loop-r.self.stages _ _ c.deref_mut.ensures.value _ c.in_ok-raise_all.ensures.grow
+      c.in_ok-raise_all.ensures.ok;
   source = c.in_ok-raise_all.ensures.source ∙ c.loop-r.invariant.source;
   there = λ have. c.in_ok-raise_all.ensures.there (have_now _ (c.args.to + 1) c.loop-r.r _ _ _
       c.deref_mut.ensures.value (omega arith) c.loop-r.invariant.raised.grow have) ∙ c.loop-r.invariant.there have;

@@ -30,5 +30,10 @@ invariant_of-self c = either c.prepare_row.result _ _ _ c.prepare_row.ensures.ok
     (upstream_row _ _ c.self.view_is (parts_of c.args.upstream.now) c.requires.row) c.in_ok-row.ensures
     (subst (λ row. IsNextPreparation c.self.inside.ring c.root-root.result.times (parts_of row)
     c.self.inside.preparation c.prepare_row.new.preparation) c.deref-2.ensures.value next)).0)
-    (λ same. subst (λ o. IsSplitter (record { ring = c.self.inside.ring; title = c.self.inside.title; preparation = o }))
+    (λ same. subst (λ o. IsSplitter (record {
+      ring = c.self.inside.ring;
+      title = c.self.inside.title;
+      preparation =
+          o;
+    }))
     (sym same) c.self.invariant)

@@ -1,0 +1,12 @@
+pub mod Origin
+pub mod Passes
+pub mod Leading
+pub mod InputErrors
+pub mod Slots
+pub mod InputValue
+pub mod InputRows
+pub mod Apart
+pub mod Differences
+pub mod JobErrors
+pub mod RootFaults
+pub mod Jobs

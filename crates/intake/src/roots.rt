@@ -1,0 +1,66 @@
+//! The roots of a job: how many there are, and pairs of them that are too near to each other.
+ghost use Rattle.std.specs.Prelude.{◌≡◌, ◌+◌, ◌<◌, length};
+ghost use Rattle.std.specs.List.{All};
+ghost use Rattle.ps_model.specs.Factors.{total_times};
+ghost use Rattle.ps_model.specs.Input.{told_count};
+ghost use Rattle.residue.specs.Residues.{number_of, IsResidue};
+ghost use Rattle.intake.specs.Apart.{IsNearPair, IsNearRoot};
+
+use ps_model::Root;
+use residue::{Modulus, NoInverse};
+
+/// Two roots, counted from 1, whose difference has no inverse.
+#[derive(Clone, Copy, Debug, PartialEq, Eq)]
+pub struct NearPair {
+    pub first: usize,
+    pub second: usize,
+    pub difference: u64,
+    /// The greatest common divisor of the difference and the modulus, above 1.
+    pub gcd: u64,
+}
+
+/// The sum of the multiplicities, at most 2^32 - 1.
+pub fn total_times(roots: &[Root]) -> u32
+    ensures { result ≡ told_count (total_times roots.now) }
+{
+    let mut total: u32 = 0;
+    for root in roots {
+        total = total.saturating_add(root.times);
+    }
+    total
+}
+
+/// The first two roots, by the first of them and then by the second, whose difference has no
+/// inverse: one run of Euclid's algorithm a pair.
+pub fn near_pair(modulus: Modulus, roots: &[Root]) -> Option<NearPair>
+    requires { All (λ (r : Root). IsResidue modulus r.value) roots.now }
+    ensures { IsNearPair (number_of modulus) roots.now result }
+{
+    for first in 0..roots.len() {
+        if let Some(pair) = near_root(modulus, roots, first) {
+            return Some(pair);
+        }
+    }
+    None
+}
+
+/// The first later root whose difference to that at a place has no inverse.
+fn near_root(modulus: Modulus, roots: &[Root], place: usize) -> Option<NearPair>
+    requires inside { place < length roots.now }
+    requires residues { All (λ (r : Root). IsResidue modulus r.value) roots.now }
+    ensures { IsNearRoot (number_of modulus) roots.now (place + 1) result }
+{
+    let root = roots[place];
+    for second in place + 1..roots.len() {
+        let difference = modulus.sub(root.value, roots[second].value);
+        if let Err(NoInverse { gcd }) = modulus.inverse(difference) {
+            return Some(NearPair {
+                first: place + 1,
+                second: second + 1,
+                difference,
+                gcd,
+            });
+        }
+    }
+    None
+}

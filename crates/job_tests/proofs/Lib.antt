@@ -1,0 +1,2 @@
+mod EmptyRows
+pub mod Permitted

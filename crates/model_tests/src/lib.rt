@@ -1,0 +1,5 @@
+//! Tests of `ps_model`.
+#![tactic(auto)]
+
+#[cfg(test)]
+mod plain_functions;

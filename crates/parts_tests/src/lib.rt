@@ -1,0 +1,14 @@
+//! Tests of `residue`, `parts` and `rows`.
+#![tactic(auto)]
+
+// `residue` and `parts`
+#[cfg(test)]
+mod homogeneous_parts;
+#[cfg(test)]
+mod larger_parts;
+#[cfg(test)]
+mod residues;
+
+// `rows`
+#[cfg(test)]
+mod own_rows;

@@ -1,9 +1,0 @@
-use Rattle.std.proofs.Common.{◌≡◌, length}
-use Rattle.parts.specs.RowsOfParts.{parts_of, AreParts}
-use Rattle.prepare.proofs.tests.row.Given as goal
-
-abbrev pub invariant-loop-c : goal.invariant-loop-c
-invariant-loop-c l = record {
-  count : length l.row.items ≡ l.c-index;
-  parts : AreParts l.fn.ring l.fn.part.degree (parts_of l.row.items);
-}

@@ -1,0 +1,23 @@
+use Rattle.std.proofs.Common.{sym, subst, lit≤}
+use Rattle.parts.specs.RowsOfParts.{parts_of, IsRowOfParts}
+use Rattle.series_tests.proofs.shifts.a_square_is_shifted.Goals as goal
+
+pub shift-requires-clause-parts : goal.shift-requires-clause-parts
+shift-requires-clause-parts g c = record {
+  K = 2;
+  r = 0;
+  low = lit≤ tt;
+  row_is = subst (λ row. IsRowOfParts c.new-ring.result 2 0 (parts_of row)) (sym c.deref.ensures.value)
+      c.in_ok-row.ensures.parts;
+}
+
+pub shift-requires-2-clause-parts : goal.shift-requires-2-clause-parts
+shift-requires-2-clause-parts g c = record {
+  K = 2;
+  r = 0;
+  low = lit≤ tt;
+  row_is = subst (λ row. IsRowOfParts c.new-ring.result 2 0 (parts_of row)) (sym c.deref-2.ensures.value)
+      (c.in_ok-shifted.ensures.parts 2 0
+      (subst (λ row. IsRowOfParts c.new-ring.result 2 0 (parts_of row)) (sym c.deref.ensures.value)
+      c.in_ok-row.ensures.parts));
+}

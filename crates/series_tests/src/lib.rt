@@ -1,0 +1,14 @@
+//! Tests of `taylor`, `prepare` and `units`.
+#![tactic(auto)]
+
+// `taylor`
+#[cfg(test)]
+mod shifts;
+
+// `prepare`
+#[cfg(test)]
+mod preparations;
+
+// `units`
+#[cfg(test)]
+mod quotients;

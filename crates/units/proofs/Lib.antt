@@ -1,0 +1,5 @@
+pub mod Added
+pub mod Parts
+pub mod Constants
+pub mod NextParts
+pub mod PartsRead
