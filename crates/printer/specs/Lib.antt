@@ -1,0 +1,5 @@
+pub mod View
+pub mod Rows
+pub mod Lines
+pub mod Texts
+pub mod Wrote

@@ -1,0 +1,12 @@
+pub mod Greatest
+pub mod EmptyRows
+pub mod LeadParts
+pub mod PartsSeen
+pub mod Known
+pub mod Opened
+pub mod Steps
+pub mod JobRings
+pub mod FactorRows
+pub mod LeadSeries
+pub mod Written
+pub mod EvenSteps

@@ -1,0 +1,14 @@
+//! Tests of `session` and `printer`.
+#![tactic(auto)]
+
+// jobs, and sessions that are raised
+#[cfg(test)]
+mod made;
+
+// `session`
+#[cfg(test)]
+mod sessions;
+
+// `printer`, from sessions
+#[cfg(test)]
+mod printing;
