@@ -1,57 +1,23 @@
-//! `hensel_tool`: factors a monic polynomial in Y over power series modulo a number, by its roots
-//! at the origin.
+//! `hensel_tool`: factors a polynomial in Y over power series modulo a number, by its roots at the
+//! origin.
 #![tactic(auto)]
 
 // the words of the command line
-mod words;
-
-// pieces of a text: cuts, prefixes, numbers and names
-mod reading;
-
-// scripts of the plain form, and how they are read
-mod plain;
-mod polynomial;
-mod root_texts;
-mod script;
-mod terms;
-
-// what a script's polynomial is: its measures, its roots, and its coefficients at the origin
-mod measures;
-mod origin;
-mod roots;
-
-// what may be wrong with a script's job, and the line that tells it
-mod fault;
-mod fault_line;
-
-// the job's factors, by a line of stages over the rows of its polynomial
-mod factoring;
-mod job;
-mod known_line;
-mod source;
-
-// their block, from homogeneous parts
-mod block;
-mod factor_parts;
-
-// the program's work, from bytes to bytes
-mod answer;
-mod program;
-#[cfg(test)]
-mod reading_tests;
-mod status;
 #[cfg(test)]
 mod tests;
+mod words;
 
+pub use commands::run;
 use ports::{StdSink, StdSource};
 use prepare::Tally;
-pub use program::run;
 use ps_model::OutOfMemory;
-use status::OUT_OF_MEMORY;
 use std::env::{self, Env};
 use std::io::ErrorKind;
 use std::process::ExitCode;
 use words::words_after_name;
+
+/// The status of a program that has no memory for its words.
+const OUT_OF_MEMORY: u8 = 5;
 
 fn main(rt: HostRuntime) -> ExitCode {
     let Ok(words) = given_words(&rt) else {

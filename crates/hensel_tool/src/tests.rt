@@ -1,6 +1,6 @@
-//! Scripts with their texts, statuses and steps.
+//! Scripts with their texts, statuses, steps and pulls.
 use crate::run;
-use ports::{CalmSource, MemorySink, MemorySource, Source};
+use ports::{CalmSource, MemorySink, MemorySource, Pulled, Source};
 use prepare::Tally;
 use std::alloc::Global;
 use std::process::Abort;
@@ -12,7 +12,12 @@ const SCRIPT: &[u8] = b"mod 101\nvars x\npoly Y^2 + x*Y + 1\nroots 10:1 -10:1\ns
 const BLOCK: &[u8] =
     b"precision 2\nfactor 1 root 10 times 1\nY^1: 1\nY^0: 91 + 51*x + 77*x^2\nfactor 2 root 91 times 1\nY^1: 1\nY^0: 10 + 51*x + 24*x^2\n";
 
-const NOT_BUILT: &[u8] = b"refused end: not built yet\n";
+// the block of precision 0, and the same twice
+const ORIGIN: &[u8] =
+    b"precision 0\nfactor 1 root 10 times 1\nY^1: 1\nY^0: 91\nfactor 2 root 91 times 1\nY^1: 1\nY^0: 10\n";
+
+const ORIGIN_TWICE: &[u8] =
+    b"precision 0\nfactor 1 root 10 times 1\nY^1: 1\nY^0: 91\nfactor 2 root 91 times 1\nY^1: 1\nY^0: 10\nprecision 0\nfactor 1 root 10 times 1\nY^1: 1\nY^0: 91\nfactor 2 root 91 times 1\nY^1: 1\nY^0: 10\n";
 
 const USAGE: &[u8] =
     b"usage: hensel_tool factor [--rounds N | --workers N] | expand | check | demo NUMBER\n";
@@ -45,347 +50,84 @@ fn assert_run<S: Source>(
     Ok(())
 }
 
-/// Runs `factor` on a script that is read whole, with room for the text.
-fn assert_factor(
+/// Runs a command on a script that is read whole, with room for the text.
+fn assert_script(
     rt: &(impl Abort + Threads),
     alloc: Global,
+    command: &str,
     script: &[u8],
     want: (&[u8], u8, u64),
-    shows: &str,
 ) -> Result<(), Fail> {
     let mut source = CalmSource::new(Vec::from_slice(alloc, script)?);
     let sink = MemorySink::new(alloc, 4096, 4096)?;
-    assert_run(rt, alloc, &["factor"], &mut source, sink, want, shows)
+    assert_run(rt, alloc, &[command], &mut source, sink, want, command)
 }
 
 #[test]
-fn two_roots_get_their_block(rt: HostRuntime) -> Result<(), Fail> {
-    let cases: [(&str, &[u8], &[u8], u64); 8] = [
-        (
-            "two simple roots, of which one has a minus",
-            SCRIPT,
-            BLOCK,
-            6,
-        ),
-        (
-            "precision 0",
-            b"mod 101\nvars x\npoly Y^2 + x*Y + 1\nroots 10:1 -10:1\nshow 0\n",
-            b"precision 0\nfactor 1 root 10 times 1\nY^1: 1\nY^0: 91\nfactor 2 root 91 times 1\nY^1: 1\nY^0: 10\n",
-            2,
-        ),
-        (
-            "precision 5, where the parts of degree 3 and 5 are zero",
-            b"mod 101\nvars x\npoly Y^2 + x*Y + 1\nroots 10:1 -10:1\nshow 5\n",
-            b"precision 5\nfactor 1 root 10 times 1\nY^1: 1\nY^0: 91 + 51*x + 77*x^2 + 49*x^4\nfactor 2 root 91 times 1\nY^1: 1\nY^0: 10 + 51*x + 24*x^2 + 52*x^4\n",
-            12,
-        ),
-        (
-            "a modulus that is no prime",
-            b"mod 15\nvars x\npoly Y^2 - Y + x\nroots 0:1 1:1\nshow 4\n",
-            b"precision 4\nfactor 1 root 0 times 1\nY^1: 1\nY^0: 14*x + 14*x^2 + 13*x^3 + 10*x^4\nfactor 2 root 1 times 1\nY^1: 1\nY^0: 14 + 1*x + 1*x^2 + 2*x^3 + 5*x^4\n",
-            10,
-        ),
-        (
-            "the roots in another order, and a leading minus",
-            b"mod 15\nvars x\npoly -Y + x + Y^2\nroots 1:1 0:1\nshow 4\n",
-            b"precision 4\nfactor 1 root 1 times 1\nY^1: 1\nY^0: 14 + 1*x + 1*x^2 + 2*x^3 + 5*x^4\nfactor 2 root 0 times 1\nY^1: 1\nY^0: 14*x + 14*x^2 + 13*x^3 + 10*x^4\n",
-            10,
-        ),
-        (
-            "the greatest modulus",
-            b"mod 9223372036854775807\nvars x\npoly Y^2 - Y + x\nroots 0:1 1:1\nshow 4\n",
-            b"precision 4\nfactor 1 root 0 times 1\nY^1: 1\nY^0: 9223372036854775806*x + 9223372036854775806*x^2 + 9223372036854775805*x^3 + 9223372036854775802*x^4\nfactor 2 root 1 times 1\nY^1: 1\nY^0: 9223372036854775806 + 1*x + 1*x^2 + 2*x^3 + 5*x^4\n",
-            10,
-        ),
-        (
-            "a double root and a simple one",
-            b"mod 7\nvars x\npoly Y^3 - Y^2 + x\nroots 0:2 1:1\nshow 1\n",
-            b"precision 1\nfactor 1 root 0 times 2\nY^2: 1\nY^1: 6*x\nY^0: 6*x\nfactor 2 root 1 times 1\nY^1: 1\nY^0: 6 + 1*x\n",
-            4,
-        ),
-        (
-            "no request",
-            b"mod 101\nvars x\npoly Y^2 + x*Y + 1\nroots 10:1 -10:1\n",
-            b"",
-            0,
-        ),
-    ];
-    for (shows, script, text, steps) in cases {
-        assert_factor(&rt, rt.alloc(), script, (text, 0, steps), shows)?;
-    }
-    Ok(())
-}
-
-// The one factor is the polynomial itself, cut at the precision.
-#[test]
-fn one_root_gets_its_block(rt: HostRuntime) -> Result<(), Fail> {
-    let cases: [(&str, &[u8], &[u8], u64); 9] = [
-        (
-            "a square",
-            b"mod 5\nvars x\npoly Y^2 + x\nroots 0:2\nshow 3\n",
-            b"precision 3\nfactor 1 root 0 times 2\nY^2: 1\nY^1: 0\nY^0: 1*x\n",
-            4,
-        ),
-        (
-            "nothing of the variable is left at precision 0",
-            b"mod 6\nvars x\npoly Y^1 + x\nroots 0:1\nshow 0\n",
-            b"precision 0\nfactor 1 root 0 times 1\nY^1: 1\nY^0: 0\n",
-            1,
-        ),
-        (
-            "leading zeros, and a name that isn't Y",
-            b"mod 007\nvars Y_\npoly Y^02 + Y_\nroots 0:002\nshow 01\n",
-            b"precision 1\nfactor 1 root 0 times 2\nY^2: 1\nY^1: 0\nY^0: 1*Y_\n",
-            2,
-        ),
-        (
-            "the greatest modulus, and a long name",
-            b"mod 9223372036854775807\nvars a234567890123456\npoly Y + a234567890123456\nroots 0:1\nshow 40\n",
-            b"precision 40\nfactor 1 root 0 times 1\nY^1: 1\nY^0: 1*a234567890123456\n",
-            41,
-        ),
-        (
-            "the least modulus and a cube",
-            b"mod 2\nvars t\npoly Y^3 + t\nroots 0:3\nshow 2\n",
-            b"precision 2\nfactor 1 root 0 times 3\nY^3: 1\nY^2: 0\nY^1: 0\nY^0: 1*t\n",
-            3,
-        ),
-        (
-            "(Y - 1)^2 and terms with x",
-            b"mod 7\nvars x\npoly 1 + x + Y*x^2 + 5*Y + Y^2 + 3*x^4*Y\nroots 1:2\nshow 3\n",
-            b"precision 3\nfactor 1 root 1 times 2\nY^2: 1\nY^1: 5 + 1*x^2\nY^0: 1 + 1*x\n",
-            4,
-        ),
-        (
-            "terms that cancel modulo 6",
-            b"mod 6\nvars x\npoly Y + 2*3*x + 4*x^2 + 2*x*x + x^3*5*5\nroots 0:1\nshow 3\n",
-            b"precision 3\nfactor 1 root 0 times 1\nY^1: 1\nY^0: 1*x^3\n",
-            4,
-        ),
-        (
-            "numbers that aren't residues",
-            b"mod 5\nvars x\npoly Y + 18446744073709551613*x^0\nroots 7:1\nshow 0\n",
-            b"precision 0\nfactor 1 root 2 times 1\nY^1: 1\nY^0: 3\n",
-            1,
-        ),
-        (
-            "no request",
-            b"mod 5\nvars x\npoly Y^2 + x\nroots 0:2\n",
-            b"",
-            0,
-        ),
-    ];
-    for (shows, script, text, steps) in cases {
-        assert_factor(&rt, rt.alloc(), script, (text, 0, steps), shows)?;
-    }
-    Ok(())
-}
-
-// The first of several faults is told.
-#[test]
-fn a_fault_of_the_job_is_told(rt: HostRuntime) -> Result<(), Fail> {
-    let cases: [(&str, &[u8], &[u8]); 14] = [
-        (
-            "another degree",
-            b"mod 7\nvars x\npoly Y^2 + x\nroots 0:3\n",
-            b"refused line 4: degree 2, roots give 3\n",
-        ),
-        (
-            "another value at the origin as well",
-            b"mod 7\nvars x\npoly Y^2 + 1\nroots 0:1\n",
-            b"refused line 4: degree 2, roots give 1\n",
-        ),
-        (
-            "another value at the origin",
-            b"mod 7\nvars x\npoly Y^2 + 1\nroots 0:2\n",
-            b"refused line 4: power 0: input 1, roots 0\n",
-        ),
-        (
-            "the least of two powers that differ",
-            b"mod 7\nvars x\npoly Y^2 + 3*Y + 9\nroots 0:2\n",
-            b"refused line 4: power 0: input 2, roots 0\n",
-        ),
-        (
-            "a power above 0, and the greatest precision",
-            b"mod 7\nvars x\npoly Y^3 + x + 3*Y^2\nroots 0:3\nshow 4095\n",
-            b"refused line 4: power 2: input 3, roots 0\n",
-        ),
-        (
-            "a value of the root's power",
-            b"mod 15\nvars x\npoly Y^2 + 11*Y\nroots 17:2\n",
-            b"refused line 4: power 0: input 0, roots 4\n",
-        ),
-        (
-            "the sum of the multiplicities",
-            b"mod 7\nvars x\npoly Y^2 - 1\nroots 1:1 -1:2\n",
-            b"refused line 4: degree 2, roots give 3\n",
-        ),
-        (
-            "another degree, and roots that aren't apart",
-            b"mod 6\nvars x\npoly Y^3\nroots 1:1 4:1\n",
-            b"refused line 4: degree 3, roots give 2\n",
-        ),
-        (
-            "roots that aren't apart",
-            b"mod 6\nvars x\npoly Y^2 + Y + 4\nroots 1:1 4:1\n",
-            b"refused line 4: roots 1 and 2: difference 3 has no inverse, gcd 3\n",
-        ),
-        (
-            "one root twice",
-            b"mod 7\nvars x\npoly Y^2 + Y + 2\nroots 3:1 3:1\n",
-            b"refused line 4: roots 1 and 2: difference 0 has no inverse, gcd 7\n",
-        ),
-        (
-            "the least first root of a pair, and another value at the origin as well",
-            b"mod 15\nvars x\npoly Y^4 + 1\nroots 1:1 2:1 12:1 4:1\n",
-            b"refused line 4: roots 1 and 4: difference 12 has no inverse, gcd 3\n",
-        ),
-        (
-            "a pair of the last roots",
-            b"mod 15\nvars x\npoly Y^3 + 1\nroots 1:1 3:1 9:1\n",
-            b"refused line 4: roots 2 and 3: difference 9 has no inverse, gcd 3\n",
-        ),
-        (
-            "two roots and a minus",
-            b"mod 7\nvars x\npoly Y^2 + x*Y - 1\nroots 1:1 5:1\n",
-            b"refused line 4: power 0: input 6, roots 5\n",
-        ),
-        (
-            "two roots, at a power above 0",
-            b"mod 7\nvars x\npoly Y^2 - 4*Y + 2\nroots -6:1 2:1\n",
-            b"refused line 4: power 1: input 3, roots 4\n",
-        ),
-    ];
-    for (shows, script, text) in cases {
-        assert_factor(&rt, rt.alloc(), script, (text, 1, 0), shows)?;
-    }
-    Ok(())
+fn several_requests(rt: HostRuntime) -> Result<(), Fail> {
+    let script =
+        b"# two rings\n\nmod 7\r\nvars x y:2\n poly\t(Y - x)*(Y - 1)/(1 - y)  \nroots 0:1 1:1\nshow 1\nstream 2\nshow 0";
+    let text =
+        b"precision 1\nlead: 1\nfactor 1 root 0 times 1\nY^1: 1\nY^0: 6*x\nfactor 2 root 1 times 1\nY^1: 1\nY^0: 6\nstream 2\ndegree 0\nlead: 1\n1 Y^1: 1\n2 Y^1: 1\n2 Y^0: 6\ndegree 1\n1 Y^0: 6*x\ndegree 2\nlead: 1*y\nend\nprecision 0\nlead: 1\nfactor 1 root 0 times 1\nY^1: 1\nY^0: 0\nfactor 2 root 1 times 1\nY^1: 1\nY^0: 6\n";
+    assert_script(&rt, rt.alloc(), "factor", script, (text, 0, 6))
 }
 
 #[test]
-fn every_other_script_is_refused(rt: HostRuntime) -> Result<(), Fail> {
-    let cases: [(&str, &[u8]); 32] = [
-        ("nothing", b""),
-        (
-            "no last newline",
-            b"mod 5\nvars x\npoly Y^2 + x\nroots 0:2\nshow 3",
-        ),
-        (
-            "a further line",
-            b"mod 5\nvars x\npoly Y^2 + x\nroots 0:2\nshow 3\n\n",
-        ),
-        (
-            "a carriage return",
-            b"mod 5\r\nvars x\npoly Y^2 + x\nroots 0:2\nshow 3\n",
-        ),
-        (
-            "a second blank",
-            b"mod 5\nvars x\npoly Y^2  + x\nroots 0:2\nshow 3\n",
-        ),
-        ("two variables", b"mod 5\nvars x y\npoly Y\nroots 0:1\n"),
-        (
-            "two requests",
-            b"mod 5\nvars x\npoly Y^2 + x\nroots 0:2\nshow 3\nshow 3\n",
-        ),
-        (
-            "a second minus",
-            b"mod 5\nvars x\npoly Y^2 - -x\nroots 0:2\n",
-        ),
-        (
-            "a minus with no blanks",
-            b"mod 5\nvars x\npoly Y^2 -x\nroots 0:2\n",
-        ),
-        (
-            "a minus in a product",
-            b"mod 5\nvars x\npoly Y^2 + 2*-x\nroots 0:2\n",
-        ),
-        (
-            "a leading plus",
-            b"mod 5\nvars x\npoly +Y^2 + x\nroots 0:2\n",
-        ),
-        ("a quotient", b"mod 5\nvars x\npoly Y^2 + x/2\nroots 0:2\n"),
-        ("parentheses", b"mod 5\nvars x\npoly Y^2 + (x)\nroots 0:2\n"),
-        (
-            "a plus before a root",
-            b"mod 5\nvars x\npoly Y^2 + x\nroots +0:2\n",
-        ),
-        (
-            "a second blank between roots",
-            b"mod 5\nvars x\npoly Y^2 + Y\nroots 0:1  4:1\n",
-        ),
-        ("another name", b"mod 5\nvars x\npoly Y^2 + z\nroots 0:2\n"),
-        ("the name Y", b"mod 5\nvars Y\npoly Y^2 + Y\nroots 0:2\n"),
-        (
-            "a long name",
-            b"mod 5\nvars a2345678901234567\npoly Y^2 + a2345678901234567\nroots 0:2\n",
-        ),
-        (
-            "an exponent of 256",
-            b"mod 5\nvars x\npoly Y + x^256\nroots 0:1\n",
-        ),
-        (
-            "a number of 2^64",
-            b"mod 5\nvars x\npoly Y + 18446744073709551616\nroots 0:1\n",
-        ),
-        (
-            "a root of 2^64",
-            b"mod 5\nvars x\npoly Y + x\nroots 18446744073709551616:1\n",
-        ),
-        ("the multiplicity 0", b"mod 5\nvars x\npoly Y\nroots 0:0\n"),
-        ("the degree 33", b"mod 5\nvars x\npoly Y^33\nroots 0:32\n"),
-        ("the modulus 1", b"mod 1\nvars x\npoly Y^2 + x\nroots 0:2\n"),
-        (
-            "the modulus 2^63",
-            b"mod 9223372036854775808\nvars x\npoly Y^2 + x\nroots 0:2\n",
-        ),
-        (
-            "the precision 4096",
-            b"mod 5\nvars x\npoly Y^2 + x\nroots 0:2\nshow 4096\n",
-        ),
-        (
-            "a leading number that isn't 1",
-            b"mod 7\nvars x\npoly 2*Y^2\nroots 0:2\n",
-        ),
-        (
-            "a leading coefficient with the variable",
-            b"mod 7\nvars x\npoly Y + x*Y\nroots 0:1\n",
-        ),
-        (
-            "another degree as well",
-            b"mod 7\nvars x\npoly 2*Y^2\nroots 0:3\n",
-        ),
-        ("no Y", b"mod 7\nvars x\npoly x\nroots 0:1\n"),
-        (
-            "a leading minus",
-            b"mod 7\nvars x\npoly -Y + x\nroots 0:1\n",
-        ),
-        (
-            "terms of the formal degree that cancel",
-            b"mod 7\nvars x\npoly Y^3 - Y^3 + Y\nroots 0:1\n",
-        ),
-    ];
-    for (shows, script) in cases {
-        assert_factor(&rt, rt.alloc(), script, (NOT_BUILT, 1, 0), shows)?;
-    }
-    Ok(())
+fn an_input_is_expanded(rt: HostRuntime) -> Result<(), Fail> {
+    let script = b"mod 7\nvars x\npoly Y/(1-x) + 3\nroots 4:1\nshow 2\nshow 0\nstream 1\n";
+    let text =
+        b"precision 2\ninput degree 1\nY^1: 1 + 1*x + 1*x^2\nY^0: 3\nprecision 0\ninput degree 1\nY^1: 1\nY^0: 3\nrefused line 7: expected a request\n";
+    assert_script(&rt, rt.alloc(), "expand", script, (text, 1, 0))
+}
+
+#[test]
+fn a_refused_request_is_told_behind_the_answers(rt: HostRuntime) -> Result<(), Fail> {
+    let alloc = rt.alloc();
+    let mut script = Vec::from_slice(alloc, SCRIPT)?;
+    script.extend_from_slice(b"show 4096\nshow 1\n")?;
+    let mut text = Vec::from_slice(alloc, BLOCK)?;
+    text.extend_from_slice(b"refused line 6: precision above 4095\n")?;
+    assert_script(&rt, alloc, "factor", &script, (text.as_slice(), 1, 6))
+}
+
+#[test]
+fn a_line_is_missing(rt: HostRuntime) -> Result<(), Fail> {
+    let text = b"refused end: expected roots\n";
+    assert_script(
+        &rt,
+        rt.alloc(),
+        "factor",
+        b"mod 7\nvars x\npoly Y\n",
+        (text, 1, 0),
+    )
+}
+
+#[test]
+fn a_long_line_is_refused(rt: HostRuntime) -> Result<(), Fail> {
+    let alloc = rt.alloc();
+    let mut script = Vec::from_elem(alloc, b'#', 65_536)?;
+    script.extend_from_slice(b"\r\n")?;
+    script.resize(131_075, b'#')?;
+    let text = b"refused line 2: line too long\n";
+    assert_script(&rt, alloc, "factor", &script, (text, 1, 0))
 }
 
 #[test]
 fn an_input_past_the_limit_is_refused(rt: HostRuntime) -> Result<(), Fail> {
     let alloc = rt.alloc();
-    let script = Vec::from_elem(alloc, b'#', 1_048_577)?;
-    assert_factor(&rt, alloc, &script, (NOT_BUILT, 1, 0), "too long")
+    let script = Vec::from_elem(alloc, b'\n', 1_048_577)?;
+    let text = b"refused line 1048577: input too long\n";
+    assert_script(&rt, alloc, "factor", &script, (text, 1, 0))
 }
 
 // The first pull would fail, and isn't made.
 #[test]
 fn refused_words_pull_nothing(rt: HostRuntime) -> Result<(), Fail> {
     let alloc = rt.alloc();
-    let cases: [&[&str]; 5] = [
+    let cases: [&[&str]; 4] = [
         &[],
         &["factor", "now"],
         &["factor", "--rounds", "2"],
-        &["expand"],
         &["facto"],
     ];
     for words in cases {
@@ -397,36 +139,133 @@ fn refused_words_pull_nothing(rt: HostRuntime) -> Result<(), Fail> {
 }
 
 #[test]
-fn a_failing_source_has_its_status(rt: HostRuntime) -> Result<(), Fail> {
+fn all_answers_are_there_where_a_pull_fails(rt: HostRuntime) -> Result<(), Fail> {
     let alloc = rt.alloc();
     let mut pieces = Vec::new(alloc);
     pieces.push(Vec::from_slice(alloc, SCRIPT)?)?;
     let mut source = MemorySource::new(pieces, Vec::from_slice(alloc, &[2])?);
     let sink = MemorySink::new(alloc, 4096, 4096)?;
-    let want = (b"".as_slice(), 3, 0);
     assert_run(
         &rt,
         alloc,
         &["factor"],
         &mut source,
         sink,
-        want,
-        "the second pull",
+        (BLOCK, 3, 6),
+        "the second pull fails",
     )
 }
 
+// A further pull would give what is left behind the refused line.
 #[test]
-fn a_sink_has_room_or_its_status(rt: HostRuntime) -> Result<(), Fail> {
+fn a_refusal_pulls_no_more(rt: HostRuntime) -> Result<(), Fail> {
     let alloc = rt.alloc();
-    let cases: [(&str, u64, u32, u8, usize); 2] = [
-        ("room for 40 bytes", 40, 64, 4, 40),
-        ("a byte at a time", 4096, 1, 0, BLOCK.len()),
-    ];
-    for (shows, room, bite, status, written) in cases {
+    let mut pieces = Vec::new(alloc);
+    pieces.push(Vec::from_slice(alloc, b"mod 1\n")?)?;
+    pieces.push(Vec::from_slice(alloc, b"left")?)?;
+    let mut source = MemorySource::new(pieces, Vec::new(alloc));
+    let sink = MemorySink::new(alloc, 4096, 4096)?;
+    let text = b"refused line 1: modulus out of range\n";
+    assert_run(
+        &rt,
+        alloc,
+        &["factor"],
+        &mut source,
+        sink,
+        (text, 1, 0),
+        "refused",
+    )?;
+    let mut rest = [0; 8];
+    assert_eq!(&rt; source.pull(&mut rest), Pulled::Bytes(4));
+    Ok(())
+}
+
+// Each push that the sink refuses ends the run, behind the beginning that it has taken.
+#[test]
+fn a_sink_with_too_little_room(rt: HostRuntime) -> Result<(), Fail> {
+    let alloc = rt.alloc();
+    for room in 0..BLOCK.len() {
         let mut source = CalmSource::new(Vec::from_slice(alloc, SCRIPT)?);
-        let sink = MemorySink::new(alloc, room, bite)?;
-        let want = (BLOCK.get(..written).ok_or("short")?, status, 6);
-        assert_run(&rt, alloc, &["factor"], &mut source, sink, want, shows)?;
+        let sink = MemorySink::new(alloc, room as u64, 7)?;
+        let want = (BLOCK.get(..room).ok_or("short")?, 4, 6);
+        assert_run(&rt, alloc, &["factor"], &mut source, sink, want, "room")?;
     }
+    Ok(())
+}
+
+// The lines come one by one; the third request repeats the first.
+#[test]
+fn each_pull_fails_in_turn(rt: HostRuntime) -> Result<(), Fail> {
+    let alloc = rt.alloc();
+    let cases: [(u32, &[u8], u64); 8] = [
+        (1, b"", 0),
+        (2, b"", 0),
+        (3, b"", 0),
+        (4, b"", 0),
+        (5, b"", 0),
+        (6, ORIGIN, 2),
+        (7, ORIGIN_TWICE, 2),
+        (8, ORIGIN_TWICE, 2),
+    ];
+    for (pull, text, steps) in cases {
+        let mut pieces = Vec::new(alloc);
+        pieces.push(Vec::from_slice(alloc, b"mod 101\n")?)?;
+        pieces.push(Vec::from_slice(alloc, b"vars x\n")?)?;
+        pieces.push(Vec::from_slice(alloc, b"poly Y^2 + x*Y + 1\n")?)?;
+        pieces.push(Vec::from_slice(alloc, b"roots 10:1 -10:1\n")?)?;
+        pieces.push(Vec::from_slice(alloc, b"show 0\n")?)?;
+        pieces.push(Vec::from_slice(alloc, b"show 0\n")?)?;
+        pieces.push(Vec::from_slice(alloc, b"# the end")?)?;
+        let mut source = MemorySource::new(pieces, Vec::from_slice(alloc, &[pull])?);
+        let sink = MemorySink::new(alloc, 4096, 4096)?;
+        let want = (text, 3, steps);
+        assert_run(&rt, alloc, &["factor"], &mut source, sink, want, "pull")?;
+    }
+    Ok(())
+}
+
+// Lines are cut anywhere between pulls, and each push takes a byte.
+#[test]
+fn pieces_of_lines(rt: HostRuntime) -> Result<(), Fail> {
+    let alloc = rt.alloc();
+    let mut pieces = Vec::new(alloc);
+    pieces.push(Vec::from_slice(alloc, b"m")?)?;
+    pieces.push(Vec::from_slice(alloc, b"od 101\r")?)?;
+    pieces.push(Vec::from_slice(alloc, b"\nvars x\npoly Y^2 + x*Y")?)?;
+    pieces.push(Vec::from_slice(alloc, b" + 1\nroots 10:1 -10:1\ns")?)?;
+    pieces.push(Vec::from_slice(alloc, b"how 2")?)?;
+    let mut source = MemorySource::new(pieces, Vec::new(alloc));
+    let sink = MemorySink::new(alloc, 4096, 1)?;
+    assert_run(
+        &rt,
+        alloc,
+        &["factor"],
+        &mut source,
+        sink,
+        (BLOCK, 0, 6),
+        "pieces",
+    )
+}
+
+// The sink refuses the answer; a further pull would have taken the second piece.
+#[test]
+fn a_request_is_answered_before_the_next_pull(rt: HostRuntime) -> Result<(), Fail> {
+    let alloc = rt.alloc();
+    let mut pieces = Vec::new(alloc);
+    pieces.push(Vec::from_slice(alloc, SCRIPT)?)?;
+    pieces.push(Vec::from_slice(alloc, b"show 5\n")?)?;
+    let mut source = MemorySource::new(pieces, Vec::new(alloc));
+    let sink = MemorySink::new(alloc, 0, 1)?;
+    assert_run(
+        &rt,
+        alloc,
+        &["factor"],
+        &mut source,
+        sink,
+        (b"", 4, 6),
+        "no room",
+    )?;
+    let mut rest = [0; 8];
+    assert_eq!(&rt; source.pull(&mut rest), Pulled::Bytes(7));
     Ok(())
 }

@@ -3,3 +3,12 @@ pub mod Rows
 pub mod Lines
 pub mod Texts
 pub mod Wrote
+pub mod ReadForms
+pub mod ReadLaw
+pub mod ReadBlock
+pub mod ReadPrecision
+pub mod ReadErrors
+pub mod ReadFactors
+pub mod ReadText
+pub mod ReadWhole
+pub mod ReadTermLists

@@ -1,7 +1,7 @@
-//! The texts of blocks, streams and inputs, written piece by piece.
+//! The texts of blocks, streams and inputs, written piece by piece, and blocks read back.
 #![tactic(auto)]
 
-// from what is written: a view, and the parts of one polynomial of it
+// what is written: a view, and the parts of one polynomial of it
 mod coefficients;
 mod view;
 
@@ -15,7 +15,26 @@ mod block;
 mod degree;
 mod input;
 
+// reading: pieces, terms, and lines of terms
+mod read_lines;
+mod read_pieces;
+mod read_precision;
+mod read_terms;
+
+// the lines of a block
+mod read_factors;
+mod read_whole;
+
+// the block that a text is, and why a text is none
+mod block_error;
+mod read_laws;
+mod read_polynomials;
+mod reading;
+
 pub use block::write_block;
+pub use block_error::BlockError;
 pub use degree::write_degree;
 pub use input::write_input;
+pub use read_laws::l6;
+pub use reading::{Block, read_block};
 pub use view::BlockView;

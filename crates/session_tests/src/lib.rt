@@ -12,3 +12,7 @@ mod sessions;
 // `printer`, from sessions
 #[cfg(test)]
 mod printing;
+
+// `printer`, of texts
+#[cfg(test)]
+mod reading;

@@ -16,7 +16,7 @@ use stages::StageItem;
 use std::alloc::Global;
 use std::test::Fail;
 
-fn names_of(alloc: Global, texts: &[&str]) -> Result<Names, Fail> {
+pub fn names_of(alloc: Global, texts: &[&str]) -> Result<Names, Fail> {
     let mut names = Names::new(alloc);
     for text in texts {
         names.add(text)?;

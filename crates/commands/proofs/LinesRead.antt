@@ -1,0 +1,119 @@
+-- Lines of the header, and requests, as the code reads them.
+use Rattle.std.proofs.Common.{◌≡◌, ◌∙◌, sym, ap, refl, subst, ℕ, suc, ◌+◌, ◌*◌, ◌≤◌, max, List, length, take, false, Option}
+use Rattle.std.proofs.Common.{Ok, Err, Bool, true, [], ◌∷◌, inl, inr, arith}
+use Rattle.std.specs.Prelude.{Result, IfOk, IfErr, if◌then◌else◌, codes, ◌&&◌}
+use Rattle.std.proofs.lemmas.Bool.Decides.{leb_tells}
+use Rattle.parts.specs.Counting.{monomials_up_to}
+use Rattle.script.specs.Numbers.{is_number, number_of}
+use Rattle.std.specs.Str.{bytes_eq}
+use Rattle.ps_model.specs.AcceptedJob.{IsAccepted}
+use Rattle.ps_model.specs.declared.job.JobData.{JobData}
+use Rattle.parts.specs.JobRows.{IsRingOf}
+use Rattle.parts.specs.Rings.{weights_of}
+use Rattle.parts.specs.declared.rings.Ring.{Ring}
+use Rattle.stages.proofs.LineTitles.{few_roots}
+use Rattle.session.proofs.Opened.{same_weights}
+use Rattle.script.specs.Answers.{Asks, Becomes, Refuses}
+use Rattle.script.specs.Header.{Header, HeaderSays}
+use Rattle.script.specs.Header as header
+use Rattle.script.specs.Requests.{RequestSaid, Refused, precision_of, precision_in, degree_in, asked, words_said}
+use Rattle.script.specs.Requests.{request_said}
+use Rattle.script.specs.Requests as request
+use Rattle.script.specs.Script.{Has, asked_by}
+use Rattle.script.specs.Script as script
+use Rattle.script.specs.Words.{is_skipped, words}
+use Rattle.script.specs.declared.refusal.Refusal.{Refusal}
+use Rattle.script.specs.declared.refusal.Refusal.TheVariants as refusal
+use Rattle.script.specs.declared.request.Request.{Request}
+use Rattle.script.specs.declared.request.Request.TheVariants.{Show, Stream}
+use Rattle.commands.specs.declared.reading.Reading.{Reading}
+use Rattle.commands.specs.declared.reading.Reading.TheVariants.{Begun}
+use Rattle.commands.specs.declared.stop.Stop.{Stop}
+use Rattle.commands.specs.declared.stop.Stop.TheVariants as stop
+use Rattle.commands.specs.declared.words.Command.{Command}
+use Rattle.commands.specs.Answering.{DoesOnly}
+use Rattle.commands.specs.Lines.{AnswersLine, IsOpened}
+use Rattle.commands.specs.Words.{takes_streams}
+use Rattle.commands.proofs.HeaderOnce.{does_header, does_request}
+use Rattle.commands.proofs.LinesDone.{longer_line, opened_line, no_memory}
+
+-- the last line of the header, and what comes of its job
+pub made_line : (c : Command) (h : Header) (names : List (List ℕ)) (job : JobData) (result : Result Reading Stop)
+    (line : List ℕ) (n : ℕ) (old : Option (List ℕ)) (count tally : ℕ) → length line ≤ 65536 → is_skipped line ≡ false
+    → HeaderSays h line (header.Makes names job) → IsAccepted job → IfOk result (IsOpened c names job)
+    → IfErr result (λ e. e ≡ stop.OutOfMemory)
+    → AnswersLine c (Begun h) line n result old old count count tally tally
+made_line c h names job (Ok r) line n old count tally short read says accepted opened refused =
+    opened_line c h names job r line n old count tally (few_roots job accepted) opened (does_header c h line (header.Makes names job) short read says)
+made_line c h names job (Err e) line n old count tally short read says accepted opened refused =
+    subst (λ e. AnswersLine c (Begun h) line n (Err e) old old count count tally tally) (sym refused)
+    (no_memory c (Begun h) line n old count tally)
+
+-- a request as the definition asks for it
+pub does_asked : (c : Command) (names : List (List ℕ)) (job : JobData) (ring : Ring) (line : List ℕ) (said : RequestSaid)
+    → length line ≤ 65536 → is_skipped line ≡ false → IsRingOf ring job
+    → said ≡ request_said (takes_streams c) (weights_of ring) line → DoesOnly c (Has names job) line (asked_by said)
+does_asked c names job ring line said short read of is =
+    subst (λ x. DoesOnly c (Has names job) line (asked_by x))
+    (ap (λ ws. request_said (takes_streams c) ws line) (sym (same_weights ring job of)) ∙ sym is)
+    (does_request c names job line short read)
+
+-- without streams what is asked for is a block
+pub shows_alone : (ws : List ℕ) (line : List ℕ) (q : Request) → request.Asks q ≡ request_said false ws line
+    → q ≡ Show (precision_of q)
+shows_alone ws line q is = by (words line) is
+  where
+    of_show : (d : Result ℕ Refusal) → request.Asks q ≡ asked Show d → q ≡ Show (precision_of q)
+    of_show (Ok d) is = let same : q ≡ Show d = cc in same ∙ ap Show (sym (ap precision_of same))
+    of_show (Err f) is = absurd (let no : ⊥ = cc in no)
+
+    of_word : (b : Bool) (more : List (List ℕ))
+        → request.Asks q ≡ (if b then asked Show (precision_in ws more) else Refused refusal.ExpectedRequest)
+        → q ≡ Show (precision_of q)
+    of_word true more is = of_show (precision_in ws more) is
+    of_word false more is = absurd (let no : ⊥ = cc in no)
+
+    by : (l : List (List ℕ)) → request.Asks q ≡ words_said false ws l → q ≡ Show (precision_of q)
+    by [] is = absurd (let no : ⊥ = cc in no)
+    by (w ∷ more) is = of_word (bytes_eq w (codes "show")) more is
+
+-- a precision that is asked for is within its limit
+pub low_precision : (streams : Bool) (ws : List ℕ) (line : List ℕ) (q : Request)
+    → request.Asks q ≡ request_said streams ws line → precision_of q ≤ 4095
+low_precision streams ws line q is = by (words line) is
+  where
+    of_degree : (d n : ℕ) → Ok d ≡ degree_in ws n → d ≤ 4095
+    of_degree d n is = elim (leb_tells 4096 n) [
+      | inl high ↦ absurd (let no : ⊥ = cc in no)
+      | inr low ↦ elim (leb_tells 32769 (monomials_up_to ws n)) [
+        | inl many ↦ absurd (let no : ⊥ = cc in no)
+        | inr few ↦ (let same : d ≡ n = cc in let below = low.1 in omega arith)
+      ]
+    ]
+
+    of_words : (d : ℕ) (l : List (List ℕ)) → Ok d ≡ precision_in ws l → d ≤ 4095
+    of_words d [] is = absurd (let no : ⊥ = cc in no)
+    of_words d (w ∷ []) is = by (is_number w) is
+      where
+        by : (b : Bool) → Ok d ≡ (if b then degree_in ws (number_of w) else Err refusal.BadRequest) → d ≤ 4095
+        by true is = of_degree d (number_of w) is
+        by false is = absurd (let no : ⊥ = cc in no)
+    of_words d (w ∷ v ∷ more) is = absurd (let no : ⊥ = cc in no)
+
+    of_asked : (ask : ℕ → Request) → ((d : ℕ) → precision_of (ask d) ≡ d) → (more : List (List ℕ))
+        → (d : Result ℕ Refusal) → d ≡ precision_in ws more → request.Asks q ≡ asked ask d → precision_of q ≤ 4095
+    of_asked ask back more (Ok d) from is =
+        (let same : q ≡ ask d = cc in let of = ap precision_of same ∙ back d in let low = of_words d more from in omega arith)
+    of_asked ask back more (Err f) from is = absurd (let no : ⊥ = cc in no)
+
+    by_word : (show stream : Bool) (more : List (List ℕ))
+        → request.Asks q ≡ (if show then asked Show (precision_in ws more)
+        else (if stream then asked Stream (precision_in ws more) else Refused refusal.ExpectedRequest))
+        → precision_of q ≤ 4095
+    by_word true stream more is = of_asked Show (λ d. refl) more (precision_in ws more) refl is
+    by_word false true more is = of_asked Stream (λ d. refl) more (precision_in ws more) refl is
+    by_word false false more is = absurd (let no : ⊥ = cc in no)
+
+    by : (l : List (List ℕ)) → request.Asks q ≡ words_said streams ws l → precision_of q ≤ 4095
+    by [] is = absurd (let no : ⊥ = cc in no)
+    by (w ∷ more) is = by_word (bytes_eq w (codes "show")) (streams && bytes_eq w (codes "stream")) more is

@@ -1,0 +1,83 @@
+-- What a run of the program has done with its source, its sink and its tally, by the command that its words name.
+--     IsLeft left input      the input is what the source has left, where it tells that; else it may be any
+--     IsKnown command left input      the input is what the source has left, and told; for refused words it doesn't
+--         matter
+--     WritesBeginning written written' text      a beginning of the text was added to what was written, where that is
+--         told
+--     Outputs command left written written' tally tally' status      the text of the output was written, the tally grew
+--         by its steps, and the status is its
+--     IsMark left ended      whether no byte is left, where that is told
+--     AnswersLines command left left' written written' tally tally'      all answers to the whole lines that were taken
+--         from the source were written, none of which is refused, and the tally grew by their steps
+--     IsPart command ended bytes text steps      the text and the steps of the lines of the bytes, with the end of the
+--         input behind them where it ended; for refused words the usage line
+--     StopsWithin command left left' written written' tally tally'      a beginning of this text was written, of the
+--         bytes that were taken from the source, and the tally grew by no more than these steps
+use Rattle.std.specs.Prelude.{◌≡◌, ℕ, ◌+◌, ◌≤◌, Bool, true, false, List, [], ◌∷◌, ◌++◌, take, Option, Some, None}
+use Rattle.ports.specs.Bytes.{WritesAll, TakesBytes}
+use Rattle.script.specs.Answers.{items_of}
+use Rattle.script.specs.Script.{State}
+use Rattle.commands.specs.declared.words.Command.{Command}
+use Rattle.commands.specs.Output.{Asked, AreAnswers, IsWhole, IsOutput, steps_of}
+use Rattle.commands.specs.Words.{usage_line}
+
+abbrev pub IsLeft : Option (List ℕ) → List ℕ → Type 0
+IsLeft None input = Unit {0}
+IsLeft (Some bytes) input = bytes ≡ input
+
+abbrev pub IsKnown : Option Command → Option (List ℕ) → List ℕ → Type 0
+IsKnown None left input = Unit {0}
+IsKnown (Some c) None input = ⊥
+IsKnown (Some c) (Some bytes) input = bytes ≡ input
+
+abbrev pub WritesBeginning : Option (List ℕ) → Option (List ℕ) → List ℕ → Type 0
+WritesBeginning None written' text = written' ≡ None
+WritesBeginning (Some bytes) written' text = (n : ℕ) × (written' ≡ Some (bytes ++ take n text))
+
+pub record Outputs (command : Option Command) (left written written' : Option (List ℕ)) (tally tally' status : ℕ) :
+    Type 0 where
+  pub input : List ℕ
+  pub is_left : IsLeft left input
+  pub text : List ℕ
+  pub steps : ℕ
+  pub output : IsOutput command input text status steps
+  pub writes : WritesAll written written' text
+  pub spends : tally' ≡ tally + steps
+
+pub record AnswersLines (command : Option Command) (left left' written written' : Option (List ℕ)) (tally tally' : ℕ) :
+    Type 0 where
+  pub of : Command
+  pub named : command ≡ Some of
+  pub bytes : List ℕ
+  pub taken : TakesBytes left left' bytes
+  pub text : List ℕ
+  pub state : State
+  pub asked : Asked
+  pub answers : AreAnswers of (items_of false bytes) text (Some state) asked
+  pub writes : WritesAll written written' text
+  pub spends : tally' ≡ tally + steps_of of asked
+
+abbrev pub IsMark : Option (List ℕ) → Bool → Type 0
+IsMark None ended = Unit {0}
+IsMark (Some []) ended = ended ≡ true
+IsMark (Some (b ∷ bytes)) ended = ended ≡ false
+
+abbrev pub IsPart : Option Command → Bool → List ℕ → List ℕ → ℕ → Type 0
+IsPart None ended bytes text steps = (text ≡ usage_line) × (steps ≡ 0)
+IsPart (Some c) true bytes text steps =
+    (status : ℕ) × (asked : Asked) × IsWhole c bytes text status asked × (steps ≡ steps_of c asked)
+IsPart (Some c) false bytes text steps =
+    (after : Option State) × (asked : Asked) × AreAnswers c (items_of false bytes) text after asked
+    × (steps ≡ steps_of c asked)
+
+pub record StopsWithin (command : Option Command) (left left' written written' : Option (List ℕ)) (tally tally' : ℕ) :
+    Type 0 where
+  pub bytes : List ℕ
+  pub taken : TakesBytes left left' bytes
+  pub ended : Bool
+  pub mark : IsMark left' ended
+  pub writes : (text : List ℕ) (steps : ℕ) → IsPart command ended bytes text steps
+      → WritesBeginning written written' text
+  pub more : tally ≤ tally'
+  pub at_most : (text : List ℕ) (steps : ℕ) → IsPart command ended bytes text steps
+      → tally' ≤ tally + steps

@@ -1,0 +1,11 @@
+pub mod Words
+pub mod Replies
+pub mod Output
+pub mod Calls
+pub mod Statuses
+pub mod Answering
+pub mod Streams
+pub mod Factorings
+pub mod Expandings
+pub mod Lines
+pub mod Runs

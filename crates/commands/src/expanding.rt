@@ -1,0 +1,107 @@
+//! What answers the requests of `expand`.
+ghost use Rattle.std.specs.Prelude.{◌≡◌, ◌+◌, ◌<◌, ◌≤◌, length, OnOk};
+ghost use Rattle.parts.specs.JobRows.{IsPermitted};
+ghost use Rattle.parts.specs.RowsOfParts.{parts_in};
+ghost use Rattle.session.specs.Precisions.{weights_in};
+ghost use Rattle.commands.specs.Expandings.{AreValueRows};
+
+use crate::stop::Stop;
+use intake::{InputRows, Job};
+use parts::{Part, Ring};
+use ports::Sink;
+use printer::write_input;
+use ps_model::OutOfMemory;
+use std::alloc::Global;
+use std::marker::Model;
+use std::sync::Arc;
+
+/// A job whose input answers requests.
+#[derive(Drop)]
+pub struct Expanding {
+    job: Job,
+    /// The parts of the input that are known, by degree and by power of Y.
+    rows: Vec<Vec<Arc<Part>>>,
+}
+
+impl Model for Expanding {
+    ghost use Rattle.parts.specs.RowsOfParts.{parts_in};
+    ghost use Rattle.commands.specs.Answering.{ExpandingValue};
+    ghost use Rattle.commands.specs.Expandings.{expanding_code, expanding_of, IsExpanding};
+
+    ghost Value = { ExpandingValue };
+
+    ghost coded = { expanding_code };
+
+    ghost view = { λ s. expanding_of s.job };
+
+    ghost invariant = { λ s. IsExpanding s.job (parts_in s.rows.items) };
+}
+
+impl Expanding {
+    ghost use Rattle.std.specs.Prelude.{◌≡◌, length, IfOk};
+    ghost use Rattle.parts.specs.JobRows.{IsPermitted, IsRingOf};
+    ghost use Rattle.ps_model.specs.AcceptedJob.{IsAccepted};
+    ghost use Rattle.script.specs.Script.{Has};
+    ghost use Rattle.script.specs.declared.request.Request.TheVariants.{Show};
+    ghost use Rattle.session.specs.Precisions.{weights_in};
+    ghost use Rattle.commands.specs.declared.words.Command.TheVariants.{Expand};
+    ghost use Rattle.commands.specs.Answering.{Answered};
+
+    /// Of the input nothing is known yet.
+    pub fn open(alloc: Global, job: Job) -> Expanding
+        requires accepted { IsAccepted job.job }
+        requires names { length job.names ≡ job.job.n }
+        ensures { result ≡ record { names = job.names; job = job.job } }
+    {
+        // that there are as many names tells the proof that they are names
+        let _names = job.names().len();
+        Expanding {
+            job,
+            rows: Vec::new(alloc),
+        }
+    }
+
+    /// The ring of the job.
+    pub fn ring(&self) -> Ring
+        ensures { IsRingOf result self.now.job }
+    {
+        self.job.ring()
+    }
+
+    /// Answers a request for a block: writes the input up to the precision.
+    ///
+    /// On an error a beginning of the answer is written at most.
+    pub fn answer<K: Sink>(self, precision: u32, sink: &mut K) -> Result<Expanding, Stop>
+        requires permitted { IsPermitted (weights_in self.job) precision }
+        ensures next { IfOk result (λ e. e ≡ self) }
+        ensures answered { Answered Expand (Has self.names self.job) (Show precision) result
+            (K.written sink.old) (K.written sink.new) (K.faults sink.old) (K.faults sink.new) }
+    {
+        let Expanding { mut job, mut rows } = self;
+        extend_rows(job.input(), &mut rows, precision)?;
+        write_input(sink, job.names(), job.ring(), &rows, precision)?;
+        Ok(Expanding { job, rows })
+    }
+}
+
+/// Extends the rows of the input to those of the degrees up to `to`. On a refusal those that came
+/// before it stay.
+fn extend_rows(
+    input: &mut InputRows,
+    rows: &mut Vec<Vec<Arc<Part>>>,
+    to: u32,
+) -> Result<(), OutOfMemory>
+    requires permitted { IsPermitted (weights_in input.old) to }
+    requires few { length rows.old.items ≤ 4096 }
+    requires rows { AreValueRows input.old (parts_in rows.old.items) }
+    ensures input { input.new ≡ input.old }
+    ensures rows { AreValueRows input.old (parts_in rows.new.items) }
+    ensures few { length rows.new.items ≤ 4096 }
+    ensures ok { OnOk result (to < length rows.new.items) }
+{
+    for r in rows.len() as u32..to + 1 {
+        let row = input.input_row(r)?;
+        rows.push(row)?;
+    }
+    Ok(())
+}

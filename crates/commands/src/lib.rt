@@ -1,0 +1,21 @@
+//! What the program does with its words, its input and its output, from bytes to bytes.
+#![tactic(auto)]
+
+mod words;
+
+// why a run ends
+mod stop;
+
+// what answers the requests of a job
+mod expanding;
+mod factoring;
+mod streams;
+
+// a script, line by line
+pub mod laws;
+mod program;
+mod reading;
+mod refusing;
+
+pub use program::run;
+pub use words::Command;

@@ -1,6 +1,0 @@
-use Rattle.std.proofs.Common.{ℕ, ◌<◌}
-use Rattle.hensel_tool.specs.Apart.{AreTooNear}
-use Rattle.hensel_tool.proofs.roots.near_pair.Given as goal
-
-abbrev pub invariant-loop-first : goal.invariant-loop-first
-invariant-loop-first l = (i j d : ℕ) → AreTooNear l.modulus.value l.roots i j d → l.first < i

@@ -1,9 +1,0 @@
-use Rattle.std.proofs.Common.{ℕ, ◌+◌, ◌<◌}
-use Rattle.hensel_tool.specs.Apart.{AreTooNear}
-use Rattle.hensel_tool.proofs.roots.near_root.Given as goal
-
-abbrev pub invariant-loop-second : goal.invariant-loop-second
-invariant-loop-second l = record {
-  above : l.place < l.second;
-  before : (j d : ℕ) → AreTooNear l.modulus.value l.roots (l.place + 1) j d → l.second < j;
-}

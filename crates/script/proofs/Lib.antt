@@ -1,0 +1,15 @@
+pub mod WordLemmas
+pub mod NumberLemmas
+pub mod RootLemmas
+pub mod NameLemmas
+pub mod NamesRead
+pub mod TreeLemmas
+pub mod HeaderLemmas
+pub mod Paths
+pub mod Items
+pub mod Searches
+pub mod ValuesDecided
+pub mod LeadsDecided
+pub mod InputsDecided
+pub mod JobsDecided
+pub mod JobsOnce

@@ -1,0 +1,9 @@
+pub mod Words
+pub mod Numbers
+pub mod Refusals
+pub mod Header
+pub mod Headers
+pub mod Sayings
+pub mod Requests
+pub mod Answers
+pub mod Script

@@ -1,0 +1,7 @@
+//! Tests of `script`.
+#![tactic(auto)]
+
+#[cfg(test)]
+mod headers;
+#[cfg(test)]
+mod requests;
