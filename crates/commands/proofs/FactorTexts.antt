@@ -30,7 +30,7 @@ use Rattle.session.proofs.Written.{written}
 use Rattle.commands.specs.Answering.{AnswersOnly}
 use Rattle.commands.specs.Replies.{IsBlock, IsStream}
 use Rattle.commands.specs.Streams.{texts_up_to, view_stream_text, view_answer}
-use Rattle.commands.specs.declared.words.Command.TheVariants.{Factor}
+use Rattle.commands.specs.declared.words.ScriptCommand.TheVariants.{Factor}
 use Rattle.commands.proofs.CutTexts.{cut_lead, degree_cut}
 use Rattle.commands.proofs.StreamSteps.{lower_known}
 
@@ -87,7 +87,8 @@ module _ (s : SessionState) (holds : IsSession s) (fits : HasItems s) where
     has : HasFactorsTo s D
     has = written s D holds fits up_to
 
-    shown_by : (S : SeriesRing) (b : Bool) → IsTrue b ↔ IsLeadShown S job.expr → (l : Poly S) → IsLead S D job.expr l
+    pub shown_by : (S : SeriesRing) (b : Bool) → IsTrue b ↔ IsLeadShown S job.expr → (l : Poly S) → IsLead S D
+        job.expr l
         → IsShownLead S D job.expr (if b then Some l else None)
     shown_by S true both l is = (both.0 refl, is)
     shown_by S false both l is = lead_stable S job.expr (λ unknown. no_truth (both.1 unknown))

@@ -11,7 +11,6 @@ use Rattle.grammar.proofs.Whole.{one_fault}
 use Rattle.expr_reader.specs.ReadErrors.{error_of}
 use Rattle.intake.specs.JobErrors.{job_error_of}
 use Rattle.intake.specs.Jobs.{data_of}
-use Rattle.script.specs.Answers.{Outcome}
 use Rattle.script.specs.Header.{Header, Empty, WithModulus, WithNames, WithTree, Said, Longer, Refused, keyword_due}
 use Rattle.script.specs.Header.{TreeSaid, JobSaid, RootsSaid, ContentSays, KeywordSays, LineSays, HeaderSays, roots_from}
 use Rattle.script.specs.Refusals.{keyword_text}
@@ -20,7 +19,7 @@ use Rattle.script.specs.Script.{Begun, Has, outcome_of, asked_by}
 use Rattle.script.specs.Words.{is_skipped, words, rest_of_line}
 use Rattle.script.specs.declared.refusal.Refusal.TheVariants as refusal
 use Rattle.script.proofs.JobsOnce.{one_job_fault}
-use Rattle.commands.specs.declared.words.Command.{Command}
+use Rattle.commands.specs.declared.words.ScriptCommand.{ScriptCommand}
 use Rattle.commands.specs.Answering.{DoesOnly}
 use Rattle.commands.specs.Words.{takes_streams}
 use Rattle.commands.proofs.LinesDone.{does_content}
@@ -77,13 +76,13 @@ pub says_once : (h : Header) (line : List ℕ) (a b : Said) → HeaderSays h lin
 says_once h line a b x y = line_once h (words line) (rest_of_line line) a b x y
 
 -- a line of the header
-pub does_header : (c : Command) (h : Header) (line : List ℕ) (s : Said) → length line ≤ 65536
+pub does_header : (c : ScriptCommand) (h : Header) (line : List ℕ) (s : Said) → length line ≤ 65536
     → is_skipped line ≡ false → HeaderSays h line s → DoesOnly c (Begun h) line (outcome_of s)
 does_header c h line s short read says = does_content c (Begun h) line (outcome_of s) short read (s, says, refl)
     (λ other (t, is, done). done ∙ ap outcome_of (says_once h line t s is says))
 
 -- a line behind it
-pub does_request : (c : Command) (names : List (List ℕ)) (job : JobData) (line : List ℕ) → length line ≤ 65536
+pub does_request : (c : ScriptCommand) (names : List (List ℕ)) (job : JobData) (line : List ℕ) → length line ≤ 65536
     → is_skipped line ≡ false
     → DoesOnly c (Has names job) line (asked_by (request_said (takes_streams c) (take job.n job.weights) line))
 does_request c names job line short read = does_content c (Has names job) line

@@ -1,6 +1,7 @@
 pub mod Replied
 pub mod CutTexts
 pub mod InputTexts
+pub mod Pieces
 pub mod StreamSteps
 pub mod FactorTexts
 pub mod Counted
@@ -18,3 +19,17 @@ pub mod LinesRead
 pub mod RunsDone
 pub mod RunsEnded
 pub mod RunsTold
+pub mod JobRings
+pub mod BlocksOnce
+pub mod ToldOnce
+pub mod Compared
+pub mod CheckTold
+pub mod BlockTold
+pub mod CheckSteps
+pub mod CheckPaths
+pub mod CheckRuns
+pub mod LinesDecided
+pub mod BlocksDecided
+pub mod ChecksOnce
+pub mod CheckLinesRead
+pub mod BlockRaised

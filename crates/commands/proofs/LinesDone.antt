@@ -24,8 +24,8 @@ use Rattle.commands.specs.declared.reading.Reading.{Reading}
 use Rattle.commands.specs.declared.reading.Reading.TheVariants.{Begun, Factors, Inputs}
 use Rattle.commands.specs.declared.stop.Stop.{Stop}
 use Rattle.commands.specs.declared.stop.Stop.TheVariants as stop
-use Rattle.commands.specs.declared.words.Command.{Command}
-use Rattle.commands.specs.declared.words.Command.TheVariants.{Factor, Expand}
+use Rattle.commands.specs.declared.words.ScriptCommand.{ScriptCommand}
+use Rattle.commands.specs.declared.words.ScriptCommand.TheVariants.{Factor, Expand}
 use Rattle.commands.specs.Answering.{AnswersOnly, DoesOnly, AreOnly, MayBe, HasStopped, FactoringValue, ExpandingValue}
 use Rattle.commands.specs.Calls.{WritesBeginning}
 use Rattle.commands.specs.Lines.{state_in, spent_of, IsReading, IsOpened, Accounts, HasCause, AnswersLine}
@@ -58,7 +58,7 @@ request_or q (Becomes t) = q
 request_or q (Asks r) = r
 request_or q (Refuses f) = q
 
-module _ (c : Command) where
+module _ (c : ScriptCommand) where
   abbrev streams : Bool
   streams = takes_streams c
 
@@ -230,13 +230,13 @@ module _ (c : Command) where
   }
 
 -- a line that asks for this, alone
-record IsAskedAlone (c : Command) (s : State) (q : Request) (text : List ℕ) (asked : Asked) : Type 0 where
+record IsAskedAlone (c : ScriptCommand) (s : State) (q : Request) (text : List ℕ) (asked : Asked) : Type 0 where
   answer : List ℕ
   answers : Answers c s q answer
   is : text ≡ answer
   one : asked ≡ (s, q) ∷ []
 
-asked_alone : (c : Command) (s : State) (q : Request) (line : List ℕ) (n : ℕ) → DoesOnly c s line (Asks q)
+asked_alone : (c : ScriptCommand) (s : State) (q : Request) (line : List ℕ) (n : ℕ) → DoesOnly c s line (Asks q)
     → (text : List ℕ) (after : Option State) (asked : Asked) → MayBe c s n (Line line ∷ []) text after asked
     → IsAskedAlone c s q text asked
 asked_alone c s q line n does text after asked (o, is, h) = by o (does.1 o is) h

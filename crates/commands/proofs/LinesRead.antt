@@ -1,5 +1,5 @@
 -- Lines of the header, and requests, as the code reads them.
-use Rattle.std.proofs.Common.{◌≡◌, ◌∙◌, sym, ap, refl, subst, ℕ, suc, ◌+◌, ◌*◌, ◌≤◌, max, List, length, take, false, Option}
+use Rattle.std.proofs.Common.{◌≡◌, ◌∙◌, sym, ap, refl, subst, ℕ, ◌≤◌, List, length, false, Option}
 use Rattle.std.proofs.Common.{Ok, Err, Bool, true, [], ◌∷◌, inl, inr, arith}
 use Rattle.std.specs.Prelude.{Result, IfOk, IfErr, if◌then◌else◌, codes, ◌&&◌}
 use Rattle.std.proofs.lemmas.Bool.Decides.{leb_tells}
@@ -13,14 +13,12 @@ use Rattle.parts.specs.Rings.{weights_of}
 use Rattle.parts.specs.declared.rings.Ring.{Ring}
 use Rattle.stages.proofs.LineTitles.{few_roots}
 use Rattle.session.proofs.Opened.{same_weights}
-use Rattle.script.specs.Answers.{Asks, Becomes, Refuses}
 use Rattle.script.specs.Header.{Header, HeaderSays}
 use Rattle.script.specs.Header as header
 use Rattle.script.specs.Requests.{RequestSaid, Refused, precision_of, precision_in, degree_in, asked, words_said}
 use Rattle.script.specs.Requests.{request_said}
 use Rattle.script.specs.Requests as request
 use Rattle.script.specs.Script.{Has, asked_by}
-use Rattle.script.specs.Script as script
 use Rattle.script.specs.Words.{is_skipped, words}
 use Rattle.script.specs.declared.refusal.Refusal.{Refusal}
 use Rattle.script.specs.declared.refusal.Refusal.TheVariants as refusal
@@ -30,15 +28,15 @@ use Rattle.commands.specs.declared.reading.Reading.{Reading}
 use Rattle.commands.specs.declared.reading.Reading.TheVariants.{Begun}
 use Rattle.commands.specs.declared.stop.Stop.{Stop}
 use Rattle.commands.specs.declared.stop.Stop.TheVariants as stop
-use Rattle.commands.specs.declared.words.Command.{Command}
+use Rattle.commands.specs.declared.words.ScriptCommand.{ScriptCommand}
 use Rattle.commands.specs.Answering.{DoesOnly}
 use Rattle.commands.specs.Lines.{AnswersLine, IsOpened}
 use Rattle.commands.specs.Words.{takes_streams}
 use Rattle.commands.proofs.HeaderOnce.{does_header, does_request}
-use Rattle.commands.proofs.LinesDone.{longer_line, opened_line, no_memory}
+use Rattle.commands.proofs.LinesDone.{opened_line, no_memory}
 
 -- the last line of the header, and what comes of its job
-pub made_line : (c : Command) (h : Header) (names : List (List ℕ)) (job : JobData) (result : Result Reading Stop)
+pub made_line : (c : ScriptCommand) (h : Header) (names : List (List ℕ)) (job : JobData) (result : Result Reading Stop)
     (line : List ℕ) (n : ℕ) (old : Option (List ℕ)) (count tally : ℕ) → length line ≤ 65536 → is_skipped line ≡ false
     → HeaderSays h line (header.Makes names job) → IsAccepted job → IfOk result (IsOpened c names job)
     → IfErr result (λ e. e ≡ stop.OutOfMemory)
@@ -50,7 +48,8 @@ made_line c h names job (Err e) line n old count tally short read says accepted 
     (no_memory c (Begun h) line n old count tally)
 
 -- a request as the definition asks for it
-pub does_asked : (c : Command) (names : List (List ℕ)) (job : JobData) (ring : Ring) (line : List ℕ) (said : RequestSaid)
+pub does_asked : (c : ScriptCommand) (names : List (List ℕ)) (job : JobData) (ring : Ring) (line : List ℕ) (said :
+    RequestSaid)
     → length line ≤ 65536 → is_skipped line ≡ false → IsRingOf ring job
     → said ≡ request_said (takes_streams c) (weights_of ring) line → DoesOnly c (Has names job) line (asked_by said)
 does_asked c names job ring line said short read of is =

@@ -33,12 +33,13 @@ use Rattle.script.specs.declared.request.Request.{Request}
 use Rattle.script.specs.declared.request.Request.TheVariants.{Show, Stream}
 use Rattle.script.proofs.LeadsDecided.{lead_is_decided}
 use Rattle.script.proofs.Paths.{path_plain, path_once}
-use Rattle.commands.specs.declared.words.Command.{Command}
-use Rattle.commands.specs.declared.words.Command.TheVariants.{Factor, Expand}
+use Rattle.commands.specs.declared.words.Command.TheVariants.{Script}
+use Rattle.commands.specs.declared.words.ScriptCommand.{ScriptCommand}
+use Rattle.commands.specs.declared.words.ScriptCommand.TheVariants.{Factor, Expand}
 use Rattle.commands.specs.Answering.{AnswersOnly, DoesOnly, AreOnly}
 use Rattle.commands.specs.Output.{Asked, AreAnswers, IsEnd, IsMissing, IsWhole, IsOutput, steps_of}
 use Rattle.commands.specs.Replies.{Answers}
-use Rattle.commands.specs.Words.{takes_streams, usage_line}
+use Rattle.commands.specs.Words.{takes_streams}
 use Rattle.commands.proofs.HeaderOnce.{does_header, does_request}
 use Rattle.commands.proofs.HeadersRead.{IsGood, IsGoodSaid, header_says}
 use Rattle.commands.proofs.LinesDone.{does_long, does_skip}
@@ -51,7 +52,7 @@ module _ (job : JobData) (ok : IsAccepted job) (D : ℕ) where
   fits : IsValidInput S job.expr
   fits = valid_input job ok.valid
 
-  factors : ExactlyOne (IsFactors job D)
+  pub factors : ExactlyOne (IsFactors job D)
   factors = lawful_factors job (accepted_lawful job ok) D
 
   value : ExactlyOne (IsValue S D job.expr)
@@ -68,7 +69,7 @@ module _ (job : JobData) (ok : IsAccepted job) (D : ℕ) where
   only_some never None is = absurd (never is)
   only_some never (Some l) is = ap (λ (p : Poly S). Some p) (lead.only l is.1)
 
-  shown : ExactlyOne (IsShownLead S D job.expr)
+  pub shown : ExactlyOne (IsShownLead S D job.expr)
   shown = elim (lead_is_decided S job.expr 1) [
     | inl known ↦ record { one_value = None; meets = known; only = only_none known }
     | inr never ↦ record { one_value = Some lead.one_value; meets = (never, lead.meets); only = only_some never }
@@ -97,13 +98,13 @@ module _ (job : JobData) (ok : IsAccepted job) (D : ℕ) where
   }
 
 -- a request that a script of the command may ask for
-abbrev IsPermitted : Command → Request → Type 0
+abbrev IsPermitted : ScriptCommand → Request → Type 0
 IsPermitted Factor r = Unit {0}
 IsPermitted Expand (Show D) = Unit {0}
 IsPermitted Expand (Stream D) = ⊥
 
 -- has one answer
-pub answer_once : (c : Command) (names : List (List ℕ)) (job : JobData) (r : Request) → IsAccepted job
+pub answer_once : (c : ScriptCommand) (names : List (List ℕ)) (job : JobData) (r : Request) → IsAccepted job
     → IsPermitted c r → (text : List ℕ) × AnswersOnly c (Has names job) r text
 answer_once Factor names job (Show D) ok may =
     let one = printed job ok D (λ fs l. block_text (job_ring job) names l job.roots fs D) in
@@ -117,28 +118,28 @@ answer_once Expand names job (Show D) ok may =
 answer_once Expand names job (Stream D) ok may = absurd may
 
 -- what a line does keeps the states good, and asks only for what has one answer
-abbrev IsGoodOutcome : Command → State → Outcome State Request → Type 0
+abbrev IsGoodOutcome : ScriptCommand → State → Outcome State Request → Type 0
 IsGoodOutcome c s Skips = Unit {0}
 IsGoodOutcome c s (Becomes t) = IsGood t
 IsGoodOutcome c s (Asks r) = (text : List ℕ) × AnswersOnly c s r text
 IsGoodOutcome c s (Refuses f) = Unit {0}
 
-said_good : (c : Command) (s : State) (said : Said) → IsGoodSaid said → IsGoodOutcome c s (outcome_of said)
+said_good : (c : ScriptCommand) (s : State) (said : Said) → IsGoodSaid said → IsGoodOutcome c s (outcome_of said)
 said_good c s (Longer h) good = good
 said_good c s (Makes names job) good = good
 said_good c s (Refused f) good = tt
 
-show_permitted : (c : Command) (d : ℕ) → IsPermitted c (Show d)
+show_permitted : (c : ScriptCommand) (d : ℕ) → IsPermitted c (Show d)
 show_permitted Factor d = tt
 show_permitted Expand d = tt
 
 module _ (names : List (List ℕ)) (job : JobData) (ok : IsAccepted job) where
-  asked_good : (c : Command) (ask : ℕ → Request) → ((d : ℕ) → IsPermitted c (ask d)) → (r : Result ℕ Refusal)
+  asked_good : (c : ScriptCommand) (ask : ℕ → Request) → ((d : ℕ) → IsPermitted c (ask d)) → (r : Result ℕ Refusal)
       → IsGoodOutcome c (Has names job) (asked_by (asked ask r))
   asked_good c ask may (Ok d) = answer_once c names job (ask d) ok (may d)
   asked_good c ask may (Err f) = tt
 
-  word_tests : (c : Command) (show stream : Bool) (p : Result ℕ Refusal)
+  word_tests : (c : ScriptCommand) (show stream : Bool) (p : Result ℕ Refusal)
       → IsGoodOutcome c (Has names job) (asked_by (if show then asked Show p else
       (if takes_streams c && stream then asked Stream p else request.Refused refusal.ExpectedRequest)))
   word_tests c true stream p = asked_good c Show (show_permitted c) p
@@ -146,14 +147,14 @@ module _ (names : List (List ℕ)) (job : JobData) (ok : IsAccepted job) where
   word_tests Factor false false p = tt
   word_tests Expand false stream p = tt
 
-  words_good : (c : Command) (ws : List ℕ) (text : List (List ℕ))
+  words_good : (c : ScriptCommand) (ws : List ℕ) (text : List (List ℕ))
       → IsGoodOutcome c (Has names job) (asked_by (words_said (takes_streams c) ws text))
   words_good c ws [] = tt
   words_good c ws (w ∷ more) =
       word_tests c (bytes_eq w (codes "show")) (bytes_eq w (codes "stream")) (precision_in ws more)
 
 -- each line does one thing
-module _ (c : Command) where
+module _ (c : ScriptCommand) where
   abbrev IsDone : State → List ℕ → Type 0
   IsDone s line = (o : Outcome State Request) × DoesOnly c s line o × IsGoodOutcome c s o
 
@@ -207,7 +208,7 @@ module _ (c : Command) where
       (text, after, asked, (o, does, h))
 
 -- the lines of a script
-pub answers_once : (c : Command) (items : List Item)
+pub answers_once : (c : ScriptCommand) (items : List Item)
     → ExactlyOne {A = List ℕ × Option State × Asked} (λ w. AreAnswers c items w.0 w.1 w.2)
 answers_once c items =
     let (text, after, asked, h) = items_done c (Begun Empty) 1 items tt in
@@ -248,7 +249,7 @@ end_once None text status h = h
 end_once (Some s) text status h = missing_once (missing s) text status h
 
 -- a whole input
-pub whole_once : (c : Command) (input : List ℕ)
+pub whole_once : (c : ScriptCommand) (input : List ℕ)
     → ExactlyOne {A = List ℕ × ℕ × Asked} (λ w. IsWhole c input w.0 w.1 w.2)
 whole_once c input = record {
   one_value = (lines ++ (end_of after).0, (end_of after).1, one.one_value.2);
@@ -277,15 +278,10 @@ whole_once c input = record {
     after : Option State
     after = (answers_once c (items_of true input)).one_value.1
 
--- the program's output
-pub output_once : (command : Option Command) (input : List ℕ)
-    → ExactlyOne {A = List ℕ × ℕ × ℕ} (λ w. IsOutput command input w.0 w.1 w.2)
-output_once None input = record {
-  one_value = (usage_line, 2, 0);
-  meets = (refl, refl, refl);
-  only = λ w h i. (h.0 i, h.1 i, h.2 i);
-}
-output_once (Some c) input =
+-- the output of a command that answers requests
+pub requests_once : (c : ScriptCommand) (input : List ℕ)
+    → ExactlyOne {A = List ℕ × ℕ × ℕ} (λ w. IsOutput (Some (Script c)) input w.0 w.1 w.2)
+requests_once c input =
     let one = whole_once c input in
     record {
       one_value = (one.one_value.0, one.one_value.1, steps_of c one.one_value.2);

@@ -10,7 +10,7 @@ use Rattle.commands.specs.Answering.{AnswersOnly, Answered}
 use Rattle.commands.specs.Calls.{WritesBeginning}
 use Rattle.commands.specs.declared.stop.Stop.{Stop}
 use Rattle.commands.specs.declared.stop.Stop.TheVariants as stop
-use Rattle.commands.specs.declared.words.Command.{Command}
+use Rattle.commands.specs.declared.words.ScriptCommand.{ScriptCommand}
 
 beginning : (old now : Option (List ℕ)) (text : List ℕ) → WritesPart old now text → WritesBeginning old now text
 beginning None now text is = is
@@ -22,7 +22,7 @@ nothing None text = refl
 nothing (Some bytes) text = (0, ap (λ (l : List ℕ). Some l) (sym (append-nil bytes)))
 
 -- there was no memory, before anything was written
-pub not_begun : (c : Command) (s : State) (r : Request) {A : Type 0} (old : Option (List ℕ)) (before : ℕ)
+pub not_begun : (c : ScriptCommand) (s : State) (r : Request) {A : Type 0} (old : Option (List ℕ)) (before : ℕ)
     (result : Result A Stop) → result ≡ Err stop.OutOfMemory → Answered c s r result old old before before
 not_begun c s r {A = A} old before result is =
     subst (λ (r' : Result A Stop). Answered c s r r' old old before before) (sym is) (record {
@@ -35,7 +35,8 @@ not_begun c s r {A = A} old before result is =
     same : (n : ℕ) → n ≤ n
     same n = omega arith
 
-module _ (c : Command) (s : State) (r : Request) {A B E : Type 0} {old now : Option (List ℕ)} {before count : ℕ} where
+module _ (c : ScriptCommand) (s : State) (r : Request) {A B E : Type 0} {old now : Option (List ℕ)} {before count :
+    ℕ} where
   pub answered : (text : List ℕ) (x : A) {y : B} → AnswersOnly c s r text
       → Wrote {A = B} {E = E} (Ok y) old now before count text → Answered c s r {A = A} (Ok x) old now before count
   answered text x only wrote =

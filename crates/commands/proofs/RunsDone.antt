@@ -1,5 +1,5 @@
 -- What is written in a run, as far as it has come, and when it ends.
-use Rattle.std.proofs.Common.{◌≡◌, ◌∙◌, sym, ap, refl, subst, ℕ, suc, ◌+◌, ◌<◌, ◌≤◌, ◌⊎◌, inl, inr, List, [], ◌∷◌, ◌++◌}
+use Rattle.std.proofs.Common.{◌≡◌, ◌∙◌, sym, ap, refl, subst, ℕ, ◌+◌, ◌<◌, ◌≤◌, ◌⊎◌, inl, inr, List, [], ◌∷◌, ◌++◌}
 use Rattle.std.proofs.Common.{length, take, arith, Bool, true, false, Option, Some, None, append_assoc}
 use Rattle.std.proofs.lemmas.Bool.Decides.{leb_tells}
 use Rattle.std.proofs.lemmas.List.{append-nil, take-append-le, take_all}
@@ -17,14 +17,15 @@ use Rattle.script.proofs.Paths.{path_append, path_refused, path_plain, path_once
 use Rattle.script.specs.declared.refusal.Refusal.{Refusal}
 use Rattle.script.specs.declared.request.Request.{Request}
 use Rattle.commands.specs.declared.reading.Reading.{Reading}
-use Rattle.commands.specs.declared.words.Command.{Command}
-use Rattle.commands.specs.declared.words.Command.TheVariants.{Factor, Expand}
+use Rattle.commands.specs.declared.words.Command.TheVariants.{Script}
+use Rattle.commands.specs.declared.words.ScriptCommand.{ScriptCommand}
+use Rattle.commands.specs.declared.words.ScriptCommand.TheVariants.{Factor, Expand}
 use Rattle.commands.specs.Answering.{AreOnly, MayBe, DoesOnly, AnswersOnly}
-use Rattle.commands.specs.Calls.{WritesBeginning, IsLeft, IsMark, IsPart, StopsWithin, AnswersLines}
-use Rattle.commands.specs.Lines.{state_in, spent_of, IsReading, Accounts, Steps, Refuses}
-use Rattle.commands.specs.Output.{Asked, AreAnswers, IsEnd, IsMissing, IsWhole, steps_of}
+use Rattle.commands.specs.Calls.{WritesBeginning, IsLeft, IsMark, IsPart, StopsWithin, AnswersRequests}
+use Rattle.commands.specs.Lines.{state_in, spent_of, IsReading, Accounts, Steps}
+use Rattle.commands.specs.Output.{Asked, AreAnswers, IsEnd, IsMissing, steps_of}
 use Rattle.commands.specs.Replies.{Answers}
-use Rattle.commands.specs.Runs.{IsWholeAlone, Finishes}
+use Rattle.commands.specs.Runs.{IsWholeAlone, FinishesRequests}
 use Rattle.commands.specs.Words.{takes_streams}
 use Rattle.commands.proofs.StepCounts.{steps_grow, spent_is}
 use Rattle.commands.proofs.LinesDone.{writes_nothing, nothing_written}
@@ -91,7 +92,7 @@ mark_is None ended = tt
 mark_is (Some []) ended = refl
 mark_is (Some (b ∷ bytes)) ended = refl
 
-mark_ended : (left : Option (List ℕ)) (ended : Bool) → (ended ≡ true → AllTaken left) → ended ≡ true
+pub mark_ended : (left : Option (List ℕ)) (ended : Bool) → (ended ≡ true → AllTaken left) → ended ≡ true
     → mark left ended ≡ true
 mark_ended None ended all is = is
 mark_ended (Some []) ended all is = refl
@@ -102,7 +103,19 @@ pub takes_none : (left : Option (List ℕ)) → TakesBytes left left []
 takes_none None = refl
 takes_none (Some bytes) = (bytes, refl, refl)
 
-module _ (c : Command) where
+-- bytes behind others
+pub taken_more : (a b d : Option (List ℕ)) (first more : List ℕ) → TakesBytes a b first → TakesBytes b d more
+    → TakesBytes a d (first ++ more)
+taken_more None None d first more h k = k
+taken_more None (Some x) d first more h k = absurd (none-some x (sym h))
+taken_more (Some x) None d first more h k = absurd (none-some h.0 h.1)
+taken_more (Some x) (Some y) d first more h k = (
+  k.0,
+  k.1,
+  h.2 ∙ ap (λ l. first ++ l) (sym (same_Some y h.0 h.1) ∙ k.2) ∙ sym (append_assoc first more k.0),
+)
+
+module _ (c : ScriptCommand) where
   abbrev DoesSo : State → List ℕ → Outcome State Request → Type 0
   DoesSo = Does (takes_streams c)
 
@@ -146,7 +159,7 @@ module _ (c : Command) where
 
   -- out of memory before the first line
   pub stops_first : (left written : Option (List ℕ)) (tally : ℕ)
-      → StopsWithin (Some c) left left written written tally tally
+      → StopsWithin (Some (Script c)) left left written written tally tally
   stops_first left written tally = record {
     bytes = [];
     taken = takes_none left;
@@ -164,19 +177,8 @@ module _ (c : Command) where
       (ended : new.ended ≡ true → (old.ended ≡ true) ⊎ AllTaken left')
       (still : old.ended ≡ true → left' ≡ mid) where
     pub now_taken : TakesBytes left left' new.pulled
-    now_taken = subst (TakesBytes left left') (sym bytes.1) (joined left mid left' far.taken bytes.2)
-      where
-        joined : (a b d : Option (List ℕ)) → TakesBytes a b old.pulled → TakesBytes b d bytes.0
-            → TakesBytes a d (old.pulled ++ bytes.0)
-        joined None None d h k = k
-        joined None (Some x) d h k = absurd (none-some x (sym h))
-        joined (Some x) None d h k = absurd (none-some h.0 h.1)
-        joined (Some x) (Some y) d h k = (
-          k.0,
-          k.1,
-          h.2 ∙ ap (λ l. old.pulled ++ l) (sym (same_Some y h.0 h.1) ∙ k.2)
-              ∙ sym (append_assoc old.pulled bytes.0 k.0),
-        )
+    now_taken = subst (TakesBytes left left') (sym bytes.1)
+        (taken_more left mid left' old.pulled bytes.0 far.taken bytes.2)
 
     pub now_ended : new.ended ≡ true → AllTaken left'
     now_ended is = elim (ended is) [
@@ -220,7 +222,7 @@ module _ (c : Command) where
         → (rest : List Item) × (items_of end (new.pulled ++ more) ≡ far.done ++ x ∷ rest))
         → (t : List ℕ) → AreOnly c (state_in r) (1 + length far.done) (x ∷ []) t None []
         → (new_written : Option (List ℕ)) → WritesAll mid_written new_written t
-        → (tally' : ℕ) → tally' ≡ mid_tally → Finishes c left written new_written tally tally' 1
+        → (tally' : ℕ) → tally' ≡ mid_tally → FinishesRequests c left written new_written tally tally' 1
     finishes_refused x next t path new_written writes tally' same = record {
       input = new.pulled ++ from.more;
       is_left = from.is_left;
@@ -250,7 +252,7 @@ module _ (c : Command) where
         → mid_tally ≤ tally'
         → ((t : List ℕ) (after : Option State) (a : Asked) → MayBe c (state_in r) (1 + length far.done) (x ∷ []) t after a
         → tally' + spent_of r ≤ mid_tally + steps_of c (far.asked ++ a))
-        → StopsWithin (Some c) left left' written new_written tally tally'
+        → StopsWithin (Some (Script c)) left left' written new_written tally tally'
     stops_within x next new_written tally' writes more at_most = record {
       bytes = new.pulled;
       taken = now_taken;
@@ -289,7 +291,7 @@ module _ (c : Command) where
                   ∙ sym cut.4) in omega arith),
             )
 
-        both : (b : Bool) → end ≡ b → (text : List ℕ) (steps : ℕ) → IsPart (Some c) b new.pulled text steps
+        both : (b : Bool) → end ≡ b → (text : List ℕ) (steps : ℕ) → IsPart (Some (Script c)) b new.pulled text steps
             → WritesBeginning written new_written text × (tally' ≤ tally + steps)
         both true is text steps (status, asked, whole, steps_are) =
             let answers = of_lines whole.lines whole.after asked
@@ -324,7 +326,7 @@ module _ (c : Command) where
           by (Some f) a b = (b.0 ∙ sym a.0, b.1 ∙ sym a.1)
 
       finishes_end : (e : List ℕ) (n : ℕ) → IsEnd (Some (state_in r)) e n → (new_written : Option (List ℕ))
-          → WritesAll mid_written new_written e → Finishes c left written new_written tally mid_tally n
+          → WritesAll mid_written new_written e → FinishesRequests c left written new_written tally mid_tally n
       finishes_end e n is new_written writes = record {
         input = new.pulled ++ from_end.more;
         is_left = from_end.is_left;
@@ -339,13 +341,14 @@ module _ (c : Command) where
       }
 
       -- nothing is missing
-      pub finishes_well : missing (state_in r) ≡ None → Finishes c left written mid_written tally mid_tally 0
+      pub finishes_well : missing (state_in r) ≡ None → FinishesRequests c left written mid_written tally mid_tally 0
       finishes_well whole = finishes_end [] 0 (subst (λ o. IsMissing o [] 0) (sym whole) (refl, refl)) mid_written
           (writes_nothing mid_written)
 
       -- something is, and the line that tells it is written
       pub finishes_missing : (f : Refusal) → missing (state_in r) ≡ Some f → (new_written : Option (List ℕ))
-          → WritesAll mid_written new_written (end_refused f) → Finishes c left written new_written tally mid_tally 1
+          → WritesAll mid_written new_written (end_refused f) → FinishesRequests c left written new_written tally
+          mid_tally 1
       finishes_missing f is new_written writes =
           finishes_end (end_refused f) 1 (subst (λ o. IsMissing o (end_refused f) 1) (sym is) (refl, refl)) new_written
           writes
@@ -353,7 +356,7 @@ module _ (c : Command) where
       -- or a beginning of it
       pub stops_missing : (f : Refusal) → missing (state_in r) ≡ Some f → (new_written : Option (List ℕ))
           → WritesBeginning mid_written new_written (end_refused f)
-          → StopsWithin (Some c) left left' written new_written tally mid_tally
+          → StopsWithin (Some (Script c)) left left' written new_written tally mid_tally
       stops_missing f is new_written writes = record {
         bytes = new.pulled;
         taken = now_taken;
@@ -371,7 +374,7 @@ module _ (c : Command) where
           marks (Some []) all = refl
           marks (Some (b ∷ bytes)) all = absurd (let no : ⊥ = cc in no)
 
-          whole_text : (text : List ℕ) (steps : ℕ) → IsPart (Some c) true new.pulled text steps
+          whole_text : (text : List ℕ) (steps : ℕ) → IsPart (Some (Script c)) true new.pulled text steps
               → (text ≡ far.text ++ end_refused f) × (steps ≡ steps_of c far.asked)
           whole_text text steps (status, asked, whole, steps_are) =
               let same = path_once DoesSo (Answers c) (script.Begun Empty) 1 far.done far.text (Some (state_in r)) far.asked
@@ -382,10 +385,8 @@ module _ (c : Command) where
 
     -- the source failed
     pub answers_lines : items_of false new.pulled ≡ far.done
-        → AnswersLines (Some c) left left' written mid_written tally mid_tally
+        → AnswersRequests c left left' written mid_written tally mid_tally
     answers_lines here = record {
-      of = c;
-      named = refl;
       bytes = new.pulled;
       taken = now_taken;
       text = far.text;

@@ -1,29 +1,31 @@
 -- How a run ends.
-use Rattle.std.proofs.Common.{◌≡◌, ◌∙◌, sym, ap, refl, subst, ℕ, suc, ◌+◌, ◌*◌, ◌^◌, ◌<◌, ◌≤◌, ◌⊎◌, inl, inr, List, [], ◌∷◌, ◌++◌, length}
+use Rattle.std.proofs.Common.{◌≡◌, ◌∙◌, sym, ap, refl, subst, ℕ, ◌+◌, ◌^◌, ◌<◌, ◌≤◌, ◌⊎◌, inl, inr, List, [], ◌∷◌}
+use Rattle.std.proofs.Common.{◌++◌, length}
 use Rattle.std.proofs.Common.{arith, Bool, true, false, Option, Some, None, Ok, Err}
-use Rattle.std.specs.Prelude.{Result, IfErr, OnOk}
+use Rattle.std.specs.Prelude.{Result}
 use Rattle.ports.specs.Bytes.{AllTaken, WritesAll}
-use Rattle.ports.specs.Faults.{Rose, raised}
+use Rattle.ports.specs.Faults.{Rose}
 use Rattle.ports.specs.Reading as lines
 use Rattle.script.specs.Answers.{Item, Line, TooLong, items_of}
 use Rattle.script.specs.Refusals.{line_refused, end_refused}
-use Rattle.script.specs.Script.{State, missing}
+use Rattle.script.specs.Script.{State}
 use Rattle.script.specs.declared.refusal.Refusal.TheVariants as refusal
 use Rattle.script.proofs.Items.{CanFollow, next_line, next_too_long, consumed_end, consumed_failed, consumed_line}
 use Rattle.commands.specs.declared.reading.Reading.{Reading}
 use Rattle.commands.specs.declared.reading.Reading.TheVariants.{Begun, Factors, Inputs}
 use Rattle.commands.specs.declared.stop.Stop.{Stop}
 use Rattle.commands.specs.declared.stop.Stop.TheVariants as stop
-use Rattle.commands.specs.declared.words.Command.{Command}
+use Rattle.commands.specs.declared.words.Command.TheVariants.{Script}
+use Rattle.commands.specs.declared.words.ScriptCommand.{ScriptCommand}
 use Rattle.commands.specs.Answering.{AreOnly, MayBe}
 use Rattle.commands.specs.Calls.{WritesBeginning, StopsWithin}
 use Rattle.std.proofs.lemmas.Nat.{mul-le}
 use Rattle.commands.specs.Lines.{state_in, spent_of, IsReading, HasCause, AnswersLine, EndsReading, Refuses, Steps}
 use Rattle.commands.specs.Output.{Asked, steps_of}
-use Rattle.commands.specs.Runs.{Finishes, Ran, status_in}
+use Rattle.commands.specs.Runs.{FinishesRequests, Finishes, Ran, status_in}
 use Rattle.commands.specs.Statuses.{status_of}
 use Rattle.commands.proofs.RunsDone.{SoFar, stops_first, finishes_refused, stops_within, finishes_well, finishes_missing}
-use Rattle.commands.proofs.RunsDone.{stops_missing, answers_lines, so_far_line, now_taken}
+use Rattle.commands.proofs.RunsDone.{stops_missing, answers_lines, so_far_line}
 use Rattle.commands.proofs.StepCounts.{spent_is, steps_grow}
 
 -- a count that rose in a later call rose in all
@@ -33,13 +35,29 @@ rose_later a b d le rose = omega (arith, rose)
 rose_before : (a b d : ℕ) → b ≤ d → Rose a b → Rose a d
 rose_before a b d le rose = omega (arith, rose)
 
-module _ (c : Command) where
+module _ (c : ScriptCommand) where
+  -- what is written for requests, as the output of the command
+  finished : (left written written' : Option (List ℕ)) (tally tally' status : ℕ)
+      → FinishesRequests c left written written' tally tally' status
+      → Finishes (Script c) left written written' tally tally' status
+  finished left written written' tally tally' status done = record {
+    input = done.input;
+    is_left = done.is_left;
+    text = done.text;
+    steps = steps_of c done.asked;
+    output = (done.asked, done.output.is, refl);
+    only = λ t s n (asked, whole, steps).
+        let same = done.output.only t s asked whole in (same.0, same.1, steps ∙ ap (steps_of c) same.2);
+    writes = done.writes;
+    spends = done.spends;
+  }
+
   -- no memory for the lines
   pub ran_first : (left written : Option (List ℕ)) (read wrote tally : ℕ)
-      → Ran c 5 left left read read written written wrote wrote tally tally
+      → Ran (Script c) 5 left left read read written written wrote wrote tally tally
   ran_first left written read wrote tally = record {
-    whole = λ low. absurd (omega arith);
-    end = λ is. absurd (omega arith);
+    whole = λ low. absurd (elim low [ inl two ↦ omega arith | inr six ↦ omega arith ]);
+    end = λ is. absurd (elim is [ inl none ↦ omega arith | inr six ↦ omega arith ]);
     read_fault = λ is. absurd (omega arith);
     write_fault = λ is. absurd (omega arith);
     answers = λ is. absurd (omega arith);
@@ -53,12 +71,12 @@ module _ (c : Command) where
       (source_faults : read ≤ read') (sink_faults : wrote ≤ wrote') where
     -- a run that stops for this
     ran_stopped : (e : Stop) → (e ≡ stop.ReadFault → ⊥) → (e ≡ stop.WriteFault → Rose wrote wrote')
-        → (e ≡ stop.Refused → Finishes c left written new_written tally tally' 1)
-        → ((e ≡ stop.Refused → ⊥) → StopsWithin (Some c) left left' written new_written tally tally')
-        → Ran c (status_of e) left left' read read' written new_written wrote wrote' tally tally'
+        → (e ≡ stop.Refused → FinishesRequests c left written new_written tally tally' 1)
+        → ((e ≡ stop.Refused → ⊥) → StopsWithin (Some (Script c)) left left' written new_written tally tally')
+        → Ran (Script c) (status_of e) left left' read read' written new_written wrote wrote' tally tally'
     ran_stopped stop.Refused not_read rose finishes stops = record {
-      whole = λ low. finishes refl;
-      end = λ is. absurd (omega arith);
+      whole = λ low. finished left written new_written tally tally' 1 (finishes refl);
+      end = λ is. absurd (elim is [ inl none ↦ omega arith | inr six ↦ omega arith ]);
       read_fault = λ is. absurd (omega arith);
       write_fault = λ is. absurd (omega arith);
       answers = λ is. absurd (omega arith);
@@ -69,8 +87,8 @@ module _ (c : Command) where
     }
     ran_stopped stop.ReadFault not_read rose finishes stops = absurd (not_read refl)
     ran_stopped stop.WriteFault not_read rose finishes stops = record {
-      whole = λ low. absurd (omega arith);
-      end = λ is. absurd (omega arith);
+      whole = λ low. absurd (elim low [ inl two ↦ omega arith | inr six ↦ omega arith ]);
+      end = λ is. absurd (elim is [ inl none ↦ omega arith | inr six ↦ omega arith ]);
       read_fault = λ is. absurd (omega arith);
       write_fault = λ is. rose refl;
       answers = λ is. absurd (omega arith);
@@ -80,8 +98,8 @@ module _ (c : Command) where
       sink_faults = sink_faults;
     }
     ran_stopped stop.OutOfMemory not_read rose finishes stops = record {
-      whole = λ low. absurd (omega arith);
-      end = λ is. absurd (omega arith);
+      whole = λ low. absurd (elim low [ inl two ↦ omega arith | inr six ↦ omega arith ]);
+      end = λ is. absurd (elim is [ inl none ↦ omega arith | inr six ↦ omega arith ]);
       read_fault = λ is. absurd (omega arith);
       write_fault = λ is. absurd (omega arith);
       answers = λ is. absurd (omega arith);
@@ -113,7 +131,7 @@ module _ (c : Command) where
     -- the next line isn't
     pub ran_line : lines.TakesLine old new → (e : Stop) (new_written : Option (List ℕ)) (wrote' tally' : ℕ)
         → AnswersLine c r new.text new.number (Err e) mid_written new_written mid_wrote wrote' mid_tally tally'
-        → Ran c (status_of e) left left' read read' written new_written wrote wrote' tally tally'
+        → Ran (Script c) (status_of e) left left' read read' written new_written wrote wrote' tally tally'
     ran_line takes e new_written wrote' tally' answers =
         ran_stopped left left' written new_written read read' wrote wrote' tally tally' source_faults
         (let grow = answers.faults in omega arith) e not_read
@@ -150,7 +168,7 @@ module _ (c : Command) where
     -- a line needs the byte behind the last that an input may have
     pub ran_too_long : lines.NeedsLastByte new → lines.KeepsLine old new → (e : Stop) (new_written : Option (List ℕ))
         (wrote' : ℕ) → Refuses e mid_written new_written mid_wrote wrote' (line_refused (new.number + 1) refusal.InputTooLong)
-        → Ran c (status_of e) left left' read read' written new_written wrote wrote' tally mid_tally
+        → Ran (Script c) (status_of e) left left' read read' written new_written wrote wrote' tally mid_tally
     ran_too_long needs keeps e new_written wrote' told =
         ran_stopped left left' written new_written read read' wrote wrote' tally mid_tally source_faults
         (let grow = told.faults in omega arith) e not_read
@@ -185,11 +203,12 @@ module _ (c : Command) where
     pub ran_end : (new.ended ≡ true) × (lines.rest_of new ≡ []) → lines.KeepsLine old new → {A : Type 0}
         (result : Result A Stop) (new_written : Option (List ℕ)) (wrote' : ℕ)
         → EndsReading r result mid_written new_written mid_wrote wrote'
-        → Ran c (status_in result) left left' read read' written new_written wrote wrote' tally mid_tally
+        → Ran (Script c) (status_in result) left left' read read' written new_written wrote wrote' tally mid_tally
     ran_end at keeps (Ok x) new_written wrote' ends = record {
-      whole = λ low. subst (λ w. Finishes c left written w tally mid_tally 0) (sym ends.ok.1)
-          (finishes_well c old new r left mid left' written mid_written tally mid_tally far bytes ended still here over
-          ends.ok.0);
+      whole = λ low. finished left written new_written tally mid_tally 0
+          (subst (λ w. FinishesRequests c left written w tally mid_tally 0) (sym ends.ok.1) (finishes_well c old new
+          r left mid left' written mid_written tally mid_tally far bytes ended still here over
+          ends.ok.0));
       end = λ is. over;
       read_fault = λ is. absurd (omega arith);
       write_fault = λ is. absurd (omega arith);
@@ -235,10 +254,10 @@ module _ (c : Command) where
     -- the source failed
     pub ran_failed : new.ended ≡ false → lines.HasNoNewline (lines.rest_of new) → (length new.pulled ≡ 1048577 → ⊥)
         → lines.KeepsLine old new → Rose read read'
-        → Ran c 3 left left' read read' written mid_written wrote mid_wrote tally mid_tally
+        → Ran (Script c) 3 left left' read read' written mid_written wrote mid_wrote tally mid_tally
     ran_failed going none full keeps rose = record {
-      whole = λ low. absurd (omega arith);
-      end = λ is. absurd (omega arith);
+      whole = λ low. absurd (elim low [ inl two ↦ omega arith | inr six ↦ omega arith ]);
+      end = λ is. absurd (elim is [ inl none ↦ omega arith | inr six ↦ omega arith ]);
       read_fault = λ is. rose;
       write_fault = λ is. absurd (omega arith);
       answers = λ is. answers_lines c old new r left mid left' written mid_written tally mid_tally far bytes ended still
@@ -251,7 +270,7 @@ module _ (c : Command) where
     }
 
 -- the steps so far leave room for more
-pub few_steps : (c : Command) (r : Reading) (tally tally' : ℕ) → tally ≤ 2 ^ 60 → IsReading c r
+pub few_steps : (c : ScriptCommand) (r : Reading) (tally tally' : ℕ) → tally ≤ 2 ^ 60 → IsReading c r
     → tally' ≡ tally + spent_of r → tally' ≤ 2 ^ 61
 few_steps c (Begun h) tally tally' room reads spends = omega arith
 few_steps c (Factors f) tally tally' room reads spends =

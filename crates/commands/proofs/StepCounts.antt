@@ -1,18 +1,15 @@
 -- How many steps requests take.
-use Rattle.std.proofs.Common.{◌≡◌, ◌∙◌, sym, ap, refl, ℕ, suc, ◌+◌, ◌*◌, ◌≤◌, max, List, [], ◌∷◌, ◌++◌, length, arith}
-use Rattle.std.proofs.Math.Nat.{le-max_left}
+use Rattle.std.proofs.Common.{◌≡◌, ◌∙◌, sym, ap, refl, ℕ, suc, ◌*◌, ◌≤◌, max, [], ◌∷◌, ◌++◌, length, arith}
 use Rattle.std.proofs.lemmas.List.Elements.{All-head}
 use Rattle.std.proofs.lemmas.Nat.{mul-le}
-use Rattle.std.specs.List.{All}
 use Rattle.script.specs.Requests.{precision_of}
-use Rattle.script.specs.Script.{State, Has}
-use Rattle.script.specs.declared.request.Request.{Request}
+use Rattle.script.specs.Script.{Has}
 use Rattle.commands.specs.declared.reading.Reading.{Reading}
 use Rattle.commands.specs.declared.reading.Reading.TheVariants.{Begun, Factors, Inputs}
-use Rattle.commands.specs.declared.words.Command.{Command}
-use Rattle.commands.specs.declared.words.Command.TheVariants.{Factor, Expand}
+use Rattle.commands.specs.declared.words.ScriptCommand.{ScriptCommand}
+use Rattle.commands.specs.declared.words.ScriptCommand.TheVariants.{Factor, Expand}
 use Rattle.commands.specs.Lines.{Accounts, spent_of}
-use Rattle.commands.specs.Output.{Asked, degrees_of, roots_in, roots_of, steps_of}
+use Rattle.commands.specs.Output.{Asked, degrees_of, roots_in, steps_of}
 
 max_assoc : (a b c : ℕ) → max (max a b) c ≡ max a (max b c)
 max_assoc a b c = omega arith
@@ -26,7 +23,7 @@ degrees_append ((s, r) ∷ xs) ys = ap (max (suc (precision_of r))) (degrees_app
     ∙ sym (max_assoc (suc (precision_of r)) (degrees_of xs) (degrees_of ys))
 
 -- more requests take no fewer steps
-pub steps_grow : (c : Command) (xs ys : Asked) → steps_of c xs ≤ steps_of c (xs ++ ys)
+pub steps_grow : (c : ScriptCommand) (xs ys : Asked) → steps_of c xs ≤ steps_of c (xs ++ ys)
 steps_grow Factor [] ys = omega arith
 steps_grow Factor ((s, r) ∷ xs) ys =
     mul-le (roots_in s) (degrees_of ((s, r) ∷ xs)) (roots_in s) (degrees_of ((s, r) ∷ xs ++ ys)) (omega arith)
@@ -37,7 +34,7 @@ steps_grow Factor ((s, r) ∷ xs) ys =
 steps_grow Expand xs ys = omega arith
 
 -- the steps of what answers requests are those of the requests
-pub spent_is : (c : Command) (r : Reading) (asked : Asked) → Accounts c r asked → spent_of r ≡ steps_of c asked
+pub spent_is : (c : ScriptCommand) (r : Reading) (asked : Asked) → Accounts c r asked → spent_of r ≡ steps_of c asked
 spent_is Factor (Begun h) asked none = sym (ap (steps_of Factor) none)
 spent_is Expand (Begun h) asked none = refl
 spent_is Factor (Factors f) [] (of, degrees, all) = ap (λ d. length f.job.roots * d) degrees ∙ nothing (length f.job.roots)

@@ -1,12 +1,11 @@
 -- Refusals that are told, or not.
-use Rattle.std.proofs.Common.{◌≡◌, ◌∙◌, sym, ap, ℕ, ◌≤◌, List, ◌++◌, length, take, Option, Some, None, append_assoc}
+use Rattle.std.proofs.Common.{◌≡◌, ◌∙◌, sym, ap, ℕ, ◌≤◌, List, ◌++◌, length, Option, Some, None, append_assoc}
 use Rattle.std.proofs.Common.{arith}
 use Rattle.std.proofs.lemmas.List.{take_all}
 use Rattle.std.specs.Prelude.{codes, decimal}
 use Rattle.ports.specs.Bytes.{WritesAll}
 use Rattle.script.specs.Refusals.{line_refused, end_refused, refusal_text}
 use Rattle.script.specs.declared.refusal.Refusal.{Refusal}
-use Rattle.commands.specs.declared.stop.Stop.{Stop}
 use Rattle.commands.specs.declared.stop.Stop.TheVariants as stop
 use Rattle.commands.specs.Calls.{WritesBeginning}
 use Rattle.commands.specs.Lines.{Refuses}

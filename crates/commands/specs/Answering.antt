@@ -13,7 +13,7 @@ use Rattle.ps_model.specs.declared.job.JobData.{JobData}
 use Rattle.script.specs.Answers.{Item, Outcome, IsWritten}
 use Rattle.script.specs.Script.{State, Does}
 use Rattle.script.specs.declared.request.Request.{Request}
-use Rattle.commands.specs.declared.words.Command.{Command}
+use Rattle.commands.specs.declared.words.ScriptCommand.{ScriptCommand}
 use Rattle.commands.specs.declared.stop.Stop.{Stop}
 use Rattle.commands.specs.declared.stop.Stop.TheVariants as stop
 use Rattle.commands.specs.Calls.{WritesBeginning}
@@ -21,18 +21,18 @@ use Rattle.commands.specs.Output.{Asked}
 use Rattle.commands.specs.Replies.{Answers}
 use Rattle.commands.specs.Words.{takes_streams}
 
-abbrev pub AnswersOnly : Command → State → Request → List ℕ → Type 0
+abbrev pub AnswersOnly : ScriptCommand → State → Request → List ℕ → Type 0
 AnswersOnly c s r text = Answers c s r text × ((other : List ℕ) → Answers c s r other → other ≡ text)
 
-abbrev pub DoesOnly : Command → State → List ℕ → Outcome State Request → Type 0
+abbrev pub DoesOnly : ScriptCommand → State → List ℕ → Outcome State Request → Type 0
 DoesOnly c s line o =
     Does (takes_streams c) s line o
     × ((other : Outcome State Request) → Does (takes_streams c) s line other → other ≡ o)
 
-abbrev pub AreOnly : Command → State → ℕ → List Item → List ℕ → Option State → Asked → Type 0
+abbrev pub AreOnly : ScriptCommand → State → ℕ → List Item → List ℕ → Option State → Asked → Type 0
 AreOnly c = IsWritten (DoesOnly c) (AnswersOnly c)
 
-abbrev pub MayBe : Command → State → ℕ → List Item → List ℕ → Option State → Asked → Type 0
+abbrev pub MayBe : ScriptCommand → State → ℕ → List Item → List ℕ → Option State → Asked → Type 0
 MayBe c = IsWritten (Does (takes_streams c)) (Answers c)
 
 abbrev pub HasStopped : Stop → ℕ → ℕ → Type 0
@@ -41,7 +41,7 @@ HasStopped stop.ReadFault before now = ⊥
 HasStopped stop.WriteFault before now = Rose before now
 HasStopped stop.OutOfMemory before now = Unit {0}
 
-pub record Answered (c : Command) (s : State) (r : Request) {A : Type 0} (result : Result A Stop)
+pub record Answered (c : ScriptCommand) (s : State) (r : Request) {A : Type 0} (result : Result A Stop)
     (old new : Option (List ℕ)) (before now : ℕ) : Type 0 where
   pub ok : OnOk result ((text : List ℕ) × AnswersOnly c s r text × WritesAll old new text)
   pub err : OnErr result ((text : List ℕ) → Answers c s r text → WritesBeginning old new text)

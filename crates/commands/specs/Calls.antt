@@ -7,8 +7,10 @@
 --     Outputs command left written written' tally tally' status      the text of the output was written, the tally grew
 --         by its steps, and the status is its
 --     IsMark left ended      whether no byte is left, where that is told
---     AnswersLines command left left' written written' tally tally'      all answers to the whole lines that were taken
---         from the source were written, none of which is refused, and the tally grew by their steps
+--     AnswersLines command left left' written written' tally tally'      of the whole lines that were taken from the
+--         source none is refused, all answers to them were written, and the tally grew by their steps; of those of
+--         `check` none up to the line `block` is refused, and none is too long for an input, nothing was written,
+--         and no step was taken
 --     IsPart command ended bytes text steps      the text and the steps of the lines of the bytes, with the end of the
 --         input behind them where it ended; for refused words the usage line
 --     StopsWithin command left left' written written' tally tally'      a beginning of this text was written, of the
@@ -16,8 +18,13 @@
 use Rattle.std.specs.Prelude.{◌≡◌, ℕ, ◌+◌, ◌≤◌, Bool, true, false, List, [], ◌∷◌, ◌++◌, take, Option, Some, None}
 use Rattle.ports.specs.Bytes.{WritesAll, TakesBytes}
 use Rattle.script.specs.Answers.{items_of}
+use Rattle.script.specs.Checking as checking
+use Rattle.script.specs.Header.{Empty}
 use Rattle.script.specs.Script.{State}
+use Rattle.commands.specs.Checks.{IsChecked, Leads}
 use Rattle.commands.specs.declared.words.Command.{Command}
+use Rattle.commands.specs.declared.words.Command.TheVariants as command
+use Rattle.commands.specs.declared.words.ScriptCommand.{ScriptCommand}
 use Rattle.commands.specs.Output.{Asked, AreAnswers, IsWhole, IsOutput, steps_of}
 use Rattle.commands.specs.Words.{usage_line}
 
@@ -44,18 +51,34 @@ pub record Outputs (command : Option Command) (left written written' : Option (L
   pub writes : WritesAll written written' text
   pub spends : tally' ≡ tally + steps
 
-pub record AnswersLines (command : Option Command) (left left' written written' : Option (List ℕ)) (tally tally' : ℕ) :
+-- of a command that answers requests
+pub record AnswersRequests (c : ScriptCommand) (left left' written written' : Option (List ℕ)) (tally tally' : ℕ) :
     Type 0 where
-  pub of : Command
-  pub named : command ≡ Some of
   pub bytes : List ℕ
   pub taken : TakesBytes left left' bytes
   pub text : List ℕ
   pub state : State
   pub asked : Asked
-  pub answers : AreAnswers of (items_of false bytes) text (Some state) asked
+  pub answers : AreAnswers c (items_of false bytes) text (Some state) asked
   pub writes : WritesAll written written' text
-  pub spends : tally' ≡ tally + steps_of of asked
+  pub spends : tally' ≡ tally + steps_of c asked
+
+-- of `check`
+pub record ReadsLines (left left' written written' : Option (List ℕ)) (tally tally' : ℕ) : Type 0 where
+  pub bytes : List ℕ
+  pub taken : TakesBytes left left' bytes
+  pub state : checking.State
+  pub leads : Leads (checking.Begun Empty) 1 (items_of false bytes) state
+  pub writes : WritesAll written written' []
+  pub spends : tally' ≡ tally
+
+abbrev pub AnswersLines : Option Command → Option (List ℕ) → Option (List ℕ) → Option (List ℕ) → Option (List ℕ) → ℕ
+    → ℕ → Type 0
+AnswersLines None left left' written written' tally tally' = ⊥
+AnswersLines (Some (command.Script c)) left left' written written' tally tally' =
+    AnswersRequests c left left' written written' tally tally'
+AnswersLines (Some command.Check) left left' written written' tally tally' =
+    ReadsLines left left' written written' tally tally'
 
 abbrev pub IsMark : Option (List ℕ) → Bool → Type 0
 IsMark None ended = Unit {0}
@@ -64,11 +87,12 @@ IsMark (Some (b ∷ bytes)) ended = ended ≡ false
 
 abbrev pub IsPart : Option Command → Bool → List ℕ → List ℕ → ℕ → Type 0
 IsPart None ended bytes text steps = (text ≡ usage_line) × (steps ≡ 0)
-IsPart (Some c) true bytes text steps =
+IsPart (Some (command.Script c)) true bytes text steps =
     (status : ℕ) × (asked : Asked) × IsWhole c bytes text status asked × (steps ≡ steps_of c asked)
-IsPart (Some c) false bytes text steps =
+IsPart (Some (command.Script c)) false bytes text steps =
     (after : Option State) × (asked : Asked) × AreAnswers c (items_of false bytes) text after asked
     × (steps ≡ steps_of c asked)
+IsPart (Some command.Check) ended bytes text steps = (status : ℕ) × IsChecked ended bytes text status steps
 
 pub record StopsWithin (command : Option Command) (left left' written written' : Option (List ℕ)) (tally tally' : ℕ) :
     Type 0 where

@@ -1,5 +1,7 @@
 pub mod Words
 pub mod Replies
+pub mod Judging
+pub mod Checks
 pub mod Output
 pub mod Calls
 pub mod Statuses
@@ -9,3 +11,6 @@ pub mod Factorings
 pub mod Expandings
 pub mod Lines
 pub mod Runs
+pub mod Telling
+pub mod Judged
+pub mod CheckLines

@@ -10,7 +10,7 @@
 --     AnswersLine c r line n result ..      Ok: that; a refusal: the line that tells it was written; else a beginning
 --     EndsReading r result ..      Ok: nothing is missing where the input ends; else what is was told, or a beginning
 use Rattle.std.specs.Prelude.{◌≡◌, ℕ, ◌+◌, ◌*◌, ◌≤◌, List, [], ◌∷◌, ◌++◌, length, Option, Some, None}
-use Rattle.std.specs.Prelude.{Result, Ok, Err, OnOk, OnErr, IfOk, IfErr}
+use Rattle.std.specs.Prelude.{Result, Err, OnOk, OnErr, IfOk, IfErr}
 use Rattle.std.specs.List.{All}
 use Rattle.ports.specs.Bytes.{WritesAll}
 use Rattle.ports.specs.Faults.{Rose}
@@ -24,8 +24,8 @@ use Rattle.commands.specs.declared.reading.Reading.{Reading}
 use Rattle.commands.specs.declared.reading.Reading.TheVariants.{Begun, Factors, Inputs}
 use Rattle.commands.specs.declared.stop.Stop.{Stop}
 use Rattle.commands.specs.declared.stop.Stop.TheVariants.{Refused, ReadFault, WriteFault, OutOfMemory}
-use Rattle.commands.specs.declared.words.Command.{Command}
-use Rattle.commands.specs.declared.words.Command.TheVariants.{Factor, Expand}
+use Rattle.commands.specs.declared.words.ScriptCommand.{ScriptCommand}
+use Rattle.commands.specs.declared.words.ScriptCommand.TheVariants.{Factor, Expand}
 use Rattle.commands.specs.Answering.{AreOnly, MayBe}
 use Rattle.commands.specs.Calls.{WritesBeginning}
 use Rattle.commands.specs.Output.{Asked, degrees_of, steps_of}
@@ -40,19 +40,19 @@ spent_of (Begun h) = 0
 spent_of (Factors f) = length f.job.roots * f.degrees
 spent_of (Inputs e) = 0
 
-abbrev pub IsReading : Command → Reading → Type 0
+abbrev pub IsReading : ScriptCommand → Reading → Type 0
 IsReading c (Begun h) = Unit {0}
 IsReading c (Factors f) = (c ≡ Factor) × (length f.job.roots ≤ 32) × (f.degrees ≤ 4096)
 IsReading c (Inputs e) = c ≡ Expand
 
-abbrev pub Accounts : Command → Reading → Asked → Type 0
+abbrev pub Accounts : ScriptCommand → Reading → Asked → Type 0
 Accounts c (Begun h) asked = asked ≡ []
 Accounts c (Factors f) asked =
     (c ≡ Factor) × (f.degrees ≡ degrees_of asked) × All (λ p. p.0 ≡ Has f.names f.job) asked
 Accounts c (Inputs e) asked = c ≡ Expand
 
 -- what answers the requests of a job, of which none was asked for
-abbrev pub IsOpened : Command → List (List ℕ) → JobData → Reading → Type 0
+abbrev pub IsOpened : ScriptCommand → List (List ℕ) → JobData → Reading → Type 0
 IsOpened c names job (Begun h) = ⊥
 IsOpened c names job (Factors f) = (c ≡ Factor) × (f ≡ record { names = names; job = job; degrees = 0 })
 IsOpened c names job (Inputs e) = (c ≡ Expand) × (e ≡ record { names = names; job = job })
@@ -69,7 +69,7 @@ pub record Refuses (e : Stop) (old new : Option (List ℕ)) (before now : ℕ) (
   pub cause : HasCause e before now
   pub faults : before ≤ now
 
-pub record Steps (c : Command) (r : Reading) (line : List ℕ) (n : ℕ) (next : Reading) (old new : Option (List ℕ))
+pub record Steps (c : ScriptCommand) (r : Reading) (line : List ℕ) (n : ℕ) (next : Reading) (old new : Option (List ℕ))
     (tally tally' : ℕ) : Type 0 where
   pub text : List ℕ
   pub asked : Asked
@@ -79,7 +79,7 @@ pub record Steps (c : Command) (r : Reading) (line : List ℕ) (n : ℕ) (next :
   pub accounts : (earlier : Asked) → Accounts c r earlier → Accounts c next (earlier ++ asked)
   pub spends : tally' + spent_of r ≡ tally + spent_of next
 
-pub record AnswersLine (c : Command) (r : Reading) (line : List ℕ) (n : ℕ) (result : Result Reading Stop)
+pub record AnswersLine (c : ScriptCommand) (r : Reading) (line : List ℕ) (n : ℕ) (result : Result Reading Stop)
     (old new : Option (List ℕ)) (before now tally tally' : ℕ) : Type 0 where
   pub ok : IfOk result (λ next. Steps c r line n next old new tally tally')
   pub refused : result ≡ Err Refused

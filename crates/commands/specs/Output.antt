@@ -5,9 +5,9 @@
 --     steps_of c asked      the steps of the requests: of each root one for each of these degrees
 --     IsEnd after text status      what is written where the input ends in the state, and the status
 --     IsWhole c input text status asked      what is written for a whole input
---     IsOutput command input text status steps      the same of the program's words, by the command that they name; of
---         refused words the input doesn't count
-use Rattle.std.specs.Prelude.{◌≡◌, ℕ, suc, ◌*◌, max, Bool, true, List, [], ◌∷◌, ◌++◌, length, Option, Some, None}
+--     IsOutput command input text status steps      the same of the program's words, by the command that they name:
+--         for `check` what is told of all lines and the end behind them; of refused words the input doesn't count
+use Rattle.std.specs.Prelude.{◌≡◌, ℕ, suc, ◌*◌, max, true, List, [], ◌∷◌, ◌++◌, length, Option, Some, None}
 use Rattle.script.specs.Answers.{Item, items_of, IsWritten}
 use Rattle.script.specs.Header.{Empty}
 use Rattle.script.specs.Refusals.{end_refused}
@@ -16,14 +16,17 @@ use Rattle.script.specs.Script.{State, Begun, Has, Does, missing}
 use Rattle.script.specs.declared.refusal.Refusal.{Refusal}
 use Rattle.script.specs.declared.request.Request.{Request}
 use Rattle.commands.specs.declared.words.Command.{Command}
-use Rattle.commands.specs.declared.words.Command.TheVariants.{Factor, Expand}
+use Rattle.commands.specs.declared.words.Command.TheVariants as command
+use Rattle.commands.specs.declared.words.ScriptCommand.{ScriptCommand}
+use Rattle.commands.specs.declared.words.ScriptCommand.TheVariants.{Factor, Expand}
+use Rattle.commands.specs.Checks.{IsChecked}
 use Rattle.commands.specs.Replies.{Answers}
 use Rattle.commands.specs.Words.{takes_streams, usage_line}
 
 abbrev pub Asked : Type 0
 Asked = List (State × Request)
 
-abbrev pub AreAnswers : Command → List Item → List ℕ → Option State → Asked → Type 0
+abbrev pub AreAnswers : ScriptCommand → List Item → List ℕ → Option State → Asked → Type 0
 AreAnswers c = IsWritten (Does (takes_streams c)) (Answers c) (Begun Empty) 1
 
 abbrev pub degrees_of : Asked → ℕ
@@ -38,7 +41,7 @@ abbrev pub roots_of : Asked → ℕ
 roots_of [] = 0
 roots_of ((s, r) ∷ asked) = roots_in s
 
-abbrev pub steps_of : Command → Asked → ℕ
+abbrev pub steps_of : ScriptCommand → Asked → ℕ
 steps_of Factor asked = roots_of asked * degrees_of asked
 steps_of Expand asked = 0
 
@@ -50,7 +53,7 @@ abbrev pub IsEnd : Option State → List ℕ → ℕ → Type 0
 IsEnd None text status = (text ≡ []) × (status ≡ 1)
 IsEnd (Some s) text status = IsMissing (missing s) text status
 
-pub record IsWhole (c : Command) (input text : List ℕ) (status : ℕ) (asked : Asked) : Type 0 where
+pub record IsWhole (c : ScriptCommand) (input text : List ℕ) (status : ℕ) (asked : Asked) : Type 0 where
   pub lines : List ℕ
   pub end : List ℕ
   pub after : Option State
@@ -60,5 +63,6 @@ pub record IsWhole (c : Command) (input text : List ℕ) (status : ℕ) (asked :
 
 abbrev pub IsOutput : Option Command → List ℕ → List ℕ → ℕ → ℕ → Type 0
 IsOutput None input text status steps = (text ≡ usage_line) × (status ≡ 2) × (steps ≡ 0)
-IsOutput (Some c) input text status steps =
+IsOutput (Some (command.Script c)) input text status steps =
     (asked : Asked) × IsWhole c input text status asked × (steps ≡ steps_of c asked)
+IsOutput (Some command.Check) input text status steps = IsChecked true input text status steps

@@ -17,8 +17,8 @@ use Rattle.ps_model.specs.Value.{IsValue}
 use Rattle.script.specs.Script.{State, Begun, Has}
 use Rattle.script.specs.declared.request.Request.{Request}
 use Rattle.script.specs.declared.request.Request.TheVariants.{Show, Stream}
-use Rattle.commands.specs.declared.words.Command.{Command}
-use Rattle.commands.specs.declared.words.Command.TheVariants.{Factor, Expand}
+use Rattle.commands.specs.declared.words.ScriptCommand.{ScriptCommand}
+use Rattle.commands.specs.declared.words.ScriptCommand.TheVariants.{Factor, Expand}
 
 abbrev pub IsBlock : List (List ℕ) → JobData → ℕ → List ℕ → Type 0
 IsBlock names job D text =
@@ -37,12 +37,12 @@ IsInput names job D text =
     (v : Poly (job_ring job)) × IsValue (job_ring job) D job.expr v
     × (text ≡ input_text (job_ring job) names (formal_degree job.expr) v D)
 
-abbrev pub JobAnswers : Command → List (List ℕ) → JobData → Request → List ℕ → Type 0
+abbrev pub JobAnswers : ScriptCommand → List (List ℕ) → JobData → Request → List ℕ → Type 0
 JobAnswers Factor names job (Show D) text = IsBlock names job D text
 JobAnswers Factor names job (Stream D) text = IsStream names job D text
 JobAnswers Expand names job (Show D) text = IsInput names job D text
 JobAnswers Expand names job (Stream D) text = ⊥
 
-abbrev pub Answers : Command → State → Request → List ℕ → Type 0
+abbrev pub Answers : ScriptCommand → State → Request → List ℕ → Type 0
 Answers c (Begun h) r text = ⊥
 Answers c (Has names job) r text = JobAnswers c names job r text

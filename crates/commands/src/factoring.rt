@@ -42,7 +42,7 @@ impl Factoring {
     ghost use Rattle.script.specs.Script.{Has};
     ghost use Rattle.session.specs.Precisions.{weights_in};
     ghost use Rattle.commands.specs.declared.stop.Stop.TheVariants.{OutOfMemory as NoMemory};
-    ghost use Rattle.commands.specs.declared.words.Command.TheVariants.{Factor};
+    ghost use Rattle.commands.specs.declared.words.ScriptCommand.TheVariants.{Factor};
     ghost use Rattle.commands.specs.Answering.{Answered};
 
     /// Of the factors nothing is known yet. It takes the memory of their rows.

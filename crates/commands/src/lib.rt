@@ -11,11 +11,17 @@ mod expanding;
 mod factoring;
 mod streams;
 
-// a script, line by line
+// a script of `check`, line by line, and its block
+mod check;
+mod checking;
+mod judging;
+mod verdict;
+
+// a script of the others, line by line
 pub mod laws;
 mod program;
 mod reading;
 mod refusing;
 
 pub use program::run;
-pub use words::Command;
+pub use words::{Command, ScriptCommand};

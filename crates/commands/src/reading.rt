@@ -4,8 +4,8 @@ ghost use Rattle.ps_model.specs.AcceptedJob.{IsAccepted};
 ghost use Rattle.script.specs.Header.{Empty as NothingRead};
 ghost use Rattle.script.specs.Script.{Begun as BegunWith};
 ghost use Rattle.script.specs.Words.{is_skipped as is_skipped_line};
-ghost use Rattle.commands.specs.declared.words.Command.{Command as CommandOf};
-ghost use Rattle.commands.specs.declared.words.Command.TheVariants.{Factor, Expand};
+ghost use Rattle.commands.specs.declared.words.ScriptCommand.{ScriptCommand as CommandOf};
+ghost use Rattle.commands.specs.declared.words.ScriptCommand.TheVariants.{Factor, Expand};
 ghost use Rattle.commands.specs.declared.stop.Stop.TheVariants.{OutOfMemory as NoMemory};
 ghost use Rattle.commands.specs.Lines.{Accounts, AnswersLine, EndsReading, IsOpened, IsReading, state_in};
 
@@ -13,7 +13,7 @@ use crate::expanding::Expanding;
 use crate::factoring::{Factoring, precision_of};
 use crate::refusing::{refuse_end, refuse_line};
 use crate::stop::Stop;
-use crate::words::Command;
+use crate::words::ScriptCommand;
 use intake::Job;
 use ports::Sink;
 use prepare::Tally;
@@ -21,7 +21,7 @@ use script::{Header, Refusal, Refused, Said, is_skipped, request_of};
 use std::alloc::Global;
 
 /// The most bytes of a line of a script.
-const LONGEST_LINE: usize = 65536;
+pub(crate) const LONGEST_LINE: usize = 65536;
 
 /// How far a script is read: its header so far, or what answers the requests of its job.
 #[derive(Drop)]
@@ -45,7 +45,7 @@ impl Reading {
     pub fn line<K: Sink>(
         self,
         alloc: Global,
-        command: Command,
+        command: ScriptCommand,
         line: &[u8],
         number: u32,
         sink: &mut K,
@@ -88,7 +88,7 @@ impl Reading {
 /// Reads a line of the header.
 fn read_header<K: Sink>(
     alloc: Global,
-    command: Command,
+    command: ScriptCommand,
     header: Header,
     line: &[u8],
     number: u32,
@@ -108,15 +108,15 @@ fn read_header<K: Sink>(
 }
 
 /// What answers the requests of a job.
-fn open(alloc: Global, command: Command, job: Job) -> Result<Reading, Stop>
+fn open(alloc: Global, command: ScriptCommand, job: Job) -> Result<Reading, Stop>
     requires accepted { IsAccepted job.job }
     requires names { length job.names ≡ job.job.n }
     ensures opened { IfOk result (IsOpened command job.names job.job) }
     ensures refused { IfErr result (λ e. e ≡ NoMemory) }
 {
     match command {
-        Command::Factor => Ok(Reading::Factors(Factoring::open(alloc, job)?)),
-        Command::Expand => Ok(Reading::Inputs(Expanding::open(alloc, job))),
+        ScriptCommand::Factor => Ok(Reading::Factors(Factoring::open(alloc, job)?)),
+        ScriptCommand::Expand => Ok(Reading::Inputs(Expanding::open(alloc, job))),
     }
 }
 

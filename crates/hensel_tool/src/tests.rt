@@ -269,3 +269,124 @@ fn a_request_is_answered_before_the_next_pull(rt: HostRuntime) -> Result<(), Fai
     assert_eq!(&rt; source.pull(&mut rest), Pulled::Bytes(7));
     Ok(())
 }
+
+// the lines before a block of the first script
+const HEADER: &[u8] = b"mod 101\nvars x\npoly Y^2 + x*Y + 1\nroots 10:1 -10:1\nblock\n";
+
+/// Runs `check` on the header, behind which these lines stand.
+fn assert_check(
+    rt: &(impl Abort + Threads),
+    alloc: Global,
+    block: &[u8],
+    want: (&[u8], u8, u64),
+) -> Result<(), Fail> {
+    let mut script = Vec::from_slice(alloc, HEADER)?;
+    script.extend_from_slice(block)?;
+    assert_script(rt, alloc, "check", &script, want)
+}
+
+#[test]
+fn a_right_block(rt: HostRuntime) -> Result<(), Fail> {
+    assert_check(&rt, rt.alloc(), BLOCK, (b"right\n", 0, 6))
+}
+
+#[test]
+fn a_wrong_factor(rt: HostRuntime) -> Result<(), Fail> {
+    let block =
+        b"precision 2\nfactor 1 root 10 times 1\nY^1: 1\nY^0: 91 + 51*x + 78*x^2\nfactor 2 root 91 times 1\nY^1: 1\nY^0: 10 + 51*x + 24*x^2\n";
+    let text = b"wrong factor 1 power 0 degree 2\n";
+    assert_check(&rt, rt.alloc(), block, (text, 6, 6))
+}
+
+#[test]
+fn a_wrong_lead(rt: HostRuntime) -> Result<(), Fail> {
+    let script =
+        b"mod 7\nvars x\npoly (2+x)*Y^2 + x\nroots 0:2\nblock\nprecision 2\nlead: 2 + 2*x\nfactor 1 root 0 times 2\nY^2: 1\nY^1: 0\nY^0: 4*x + 5*x^2\n";
+    let text = b"wrong lead degree 1\n";
+    assert_script(&rt, rt.alloc(), "check", script, (text, 6, 3))
+}
+
+// Each line of a block counts, as it is: the fourth has a leading zero.
+#[test]
+fn a_line_of_no_block(rt: HostRuntime) -> Result<(), Fail> {
+    let block = b"precision 2\nfactor 1 root 10 times 1\nY^1: 1\nY^0: 91 + 51*x + 077*x^2\n";
+    let text = b"refused line 9: not a block\n";
+    assert_check(&rt, rt.alloc(), block, (text, 1, 0))
+}
+
+#[test]
+fn a_block_of_no_line(rt: HostRuntime) -> Result<(), Fail> {
+    let text = b"refused end: not a block\n";
+    assert_check(&rt, rt.alloc(), b"", (text, 1, 0))
+}
+
+#[test]
+fn a_block_of_too_high_a_precision(rt: HostRuntime) -> Result<(), Fail> {
+    let text = b"refused line 6: precision above 4095\n";
+    assert_check(&rt, rt.alloc(), b"precision 4096\n", (text, 1, 0))
+}
+
+#[test]
+fn an_empty_line_behind_a_block(rt: HostRuntime) -> Result<(), Fail> {
+    let alloc = rt.alloc();
+    let mut block = Vec::from_slice(alloc, BLOCK)?;
+    block.push(b'\n')?;
+    let text = b"refused line 13: not a block\n";
+    assert_check(&rt, alloc, &block, (text, 1, 0))
+}
+
+#[test]
+fn a_line_that_is_not_block(rt: HostRuntime) -> Result<(), Fail> {
+    let alloc = rt.alloc();
+    let text = b"refused line 5: bad block\n";
+    let script = b"mod 101\nvars x\npoly Y\nroots 0:1\n block 2\n";
+    assert_script(&rt, alloc, "check", script, (text, 1, 0))
+}
+
+// The first line of the block has no form, though a later one is too long for an input.
+#[test]
+fn a_long_input_behind_a_line_of_no_block(rt: HostRuntime) -> Result<(), Fail> {
+    let alloc = rt.alloc();
+    let block = Vec::from_elem(alloc, b'\n', 1_048_577)?;
+    let text = b"refused line 6: not a block\n";
+    assert_check(&rt, alloc, &block, (text, 1, 0))
+}
+
+#[test]
+fn a_long_line_of_a_block(rt: HostRuntime) -> Result<(), Fail> {
+    let alloc = rt.alloc();
+    let mut block = Vec::from_slice(alloc, b"precision 2\n")?;
+    block.resize(1_048_577, b'0')?;
+    let text = b"refused line 7: input too long\n";
+    assert_check(&rt, alloc, &block, (text, 1, 0))
+}
+
+// The second pull fails, in the block.
+#[test]
+fn a_pull_that_fails_in_a_block(rt: HostRuntime) -> Result<(), Fail> {
+    let alloc = rt.alloc();
+    let mut pieces = Vec::new(alloc);
+    pieces.push(Vec::from_slice(alloc, HEADER)?)?;
+    let mut source = MemorySource::new(pieces, Vec::from_slice(alloc, &[2])?);
+    let sink = MemorySink::new(alloc, 4096, 4096)?;
+    let want: (&[u8], u8, u64) = (b"", 3, 0);
+    assert_run(&rt, alloc, &["check"], &mut source, sink, want, "pull")
+}
+
+#[test]
+fn a_sink_with_no_room_for_a_verdict(rt: HostRuntime) -> Result<(), Fail> {
+    let alloc = rt.alloc();
+    let mut script = Vec::from_slice(alloc, HEADER)?;
+    script.extend_from_slice(BLOCK)?;
+    let mut source = CalmSource::new(script);
+    let sink = MemorySink::new(alloc, 3, 2)?;
+    assert_run(
+        &rt,
+        alloc,
+        &["check"],
+        &mut source,
+        sink,
+        (b"rig", 4, 6),
+        "room",
+    )
+}

@@ -1,7 +1,7 @@
 //! Sums and products at the sizes that matter, beside the plain sum over all pairs or numbers by hand.
-ghost use Rattle.std.specs.Prelude.{◌≡◌, ◌+◌, ◌<◌, ◌≤◌, IfOk};
+ghost use Rattle.std.specs.Prelude.{◌≡◌, ◌+◌, ◌<◌, ◌≤◌, replicate, IfOk};
 ghost use Rattle.parts.specs.PartValue.{IsPartOf};
-ghost use Rattle.parts.specs.Rings.{modulus_of};
+ghost use Rattle.parts.specs.Rings.{modulus_of, variables_of, weights_of};
 
 use parts::{Accumulator, Monomial, Part, Ring, Term, product, scaled, sum};
 use ps_model::OutOfMemory;
@@ -32,16 +32,39 @@ fn total_over_pairs(modulus: Modulus, a: &[Term], b: &[Term], k: u64) -> u64 {
     total
 }
 
-/// The square of a power, times x.
-fn next_power(alloc: Global, ring: Ring, power: &Part, x: &Part) -> Result<Part, OutOfMemory>
-    requires low { power.now.degree + power.now.degree + x.now.degree ≤ 4095 }
-    requires parts { IsPartOf ring power.now × IsPartOf ring x.now }
-    ensures degree { IfOk result (λ p. p.degree
-        ≡ power.now.degree + power.now.degree + x.now.degree) }
+/// A part of degree 1 to the power `times`.
+fn power(alloc: Global, ring: Ring, f: &Part, times: u32) -> Result<Part, OutOfMemory>
+    requires low { times ≤ 4095 }
+    requires degree { f.now.degree ≡ 1 }
+    requires part { IsPartOf ring f.now }
+    ensures degree { IfOk result (λ p. p.degree ≡ times) }
     ensures part { IfOk result (IsPartOf ring) }
 {
-    let square = product(alloc, ring, power, power)?;
-    product(alloc, ring, &square, x)
+    let mut power = Part::constant(alloc, ring, 1)?;
+    for _ in 0..times {
+        power = product(alloc, ring, &power, f)?;
+    }
+    Ok(power)
+}
+
+/// a * x + b * y, of parts x and y of degree 1.
+fn linear(
+    alloc: Global,
+    ring: Ring,
+    a: u64,
+    x: &Part,
+    b: u64,
+    y: &Part,
+) -> Result<Part, OutOfMemory>
+    requires degrees { (x.now.degree ≡ 1) × (y.now.degree ≡ 1) }
+    requires residues { (a < modulus_of ring) × (b < modulus_of ring) }
+    requires parts { IsPartOf ring x.now × IsPartOf ring y.now }
+    ensures degree { IfOk result (λ p. p.degree ≡ 1) }
+    ensures part { IfOk result (IsPartOf ring) }
+{
+    let ax = scaled(alloc, ring, x, a)?;
+    let by = scaled(alloc, ring, y, b)?;
+    sum(alloc, ring, &ax, &by)
 }
 
 /// Twice a part, less a product of its degree, in one accumulator.
@@ -69,13 +92,8 @@ fn one_variable_is_summed_at_the_greatest_degree(rt: HostRuntime) -> Result<(), 
     let alloc = rt.alloc();
     let ring = Ring::new(Modulus::new(1000003)?, 1);
     let x = scaled(alloc, ring, &Part::variable(alloc, ring, 0)?, 3)?;
-    let x3 = next_power(alloc, ring, &x, &x)?;
-    let x15 = next_power(alloc, ring, &next_power(alloc, ring, &x3, &x)?, &x)?;
-    let x63 = next_power(alloc, ring, &next_power(alloc, ring, &x15, &x)?, &x)?;
-    let x255 = next_power(alloc, ring, &next_power(alloc, ring, &x63, &x)?, &x)?;
-    let x1023 = next_power(alloc, ring, &next_power(alloc, ring, &x255, &x)?, &x)?;
-    let x2047 = next_power(alloc, ring, &x1023, &x)?;
-    let x2048 = product(alloc, ring, &x2047, &x)?;
+    let x2047 = power(alloc, ring, &x, 2047)?;
+    let x2048 = power(alloc, ring, &x, 2048)?;
     let top = product(alloc, ring, &x2047, &x2048)?;
     let mut total = Accumulator::new(alloc, ring, 4095);
     total.add_product(&x2047, &x2048, false)?;
@@ -95,19 +113,13 @@ fn a_product_in_cells_is_the_sum_over_all_pairs(rt: HostRuntime) -> Result<(), F
     let ring = Ring::new(modulus, 2);
     let x = Part::variable(alloc, ring, 0)?;
     let y = Part::variable(alloc, ring, 1)?;
-    // powers of x + 2y, and times those of 3x + 2y
-    let a1 = sum(alloc, ring, &x, &scaled(alloc, ring, &y, 2)?)?;
-    let a2 = product(alloc, ring, &a1, &a1)?;
-    let a4 = product(alloc, ring, &a2, &a2)?;
-    let a8 = product(alloc, ring, &a4, &a4)?;
-    let a16 = product(alloc, ring, &a8, &a8)?;
-    let a32 = product(alloc, ring, &a16, &a16)?;
-    let a64 = product(alloc, ring, &a32, &a32)?;
-    let a96 = product(alloc, ring, &a64, &a32)?;
-    let a = product(alloc, ring, &a96, &a4)?;
-    let b1 = sum(alloc, ring, &a1, &scaled(alloc, ring, &x, 2)?)?;
-    let b4 = product(alloc, ring, &product(alloc, ring, &b1, &b1)?, &a2)?;
-    let b = product(alloc, ring, &a96, &b4)?;
+    // (x + 2y)^100, and (x + 2y)^98 * (3x + 2y)^2
+    let one = linear(alloc, ring, 1, &x, 2, &y)?;
+    let other = linear(alloc, ring, 3, &x, 2, &y)?;
+    let a = power(alloc, ring, &one, 100)?;
+    let b98 = power(alloc, ring, &one, 98)?;
+    let b2 = power(alloc, ring, &other, 2)?;
+    let b = product(alloc, ring, &b98, &b2)?;
     let whole = product(alloc, ring, &a, &b)?;
     assert_eq!(rt; a.terms().len(), 101);
     assert_eq!(rt; b.terms().len(), 101);
@@ -122,41 +134,28 @@ fn a_product_in_cells_is_the_sum_over_all_pairs(rt: HostRuntime) -> Result<(), F
     Ok(())
 }
 
+/// The sum of the four variables from `first` on.
+fn four_variables(alloc: Global, ring: Ring, first: u32) -> Result<Part, OutOfMemory>
+    requires variables { first + 3 < variables_of ring }
+    requires weights { weights_of ring ≡ replicate (variables_of ring) 1 }
+    ensures degree { IfOk result (λ p. p.degree ≡ 1) }
+    ensures part { IfOk result (IsPartOf ring) }
+{
+    let mut total = Accumulator::new(alloc, ring, 1);
+    for i in first..first + 4 {
+        total.add_scaled(&Part::variable(alloc, ring, i)?, 1)?;
+    }
+    total.finish()
+}
+
 #[test]
 fn sorted_terms_of_eight_variables_are_added(rt: HostRuntime) -> Result<(), Fail> {
     let alloc = rt.alloc();
     let ring = Ring::new(Modulus::new(9223372036854775783)?, 8);
-    let a = sum(
-        alloc,
-        ring,
-        &Part::variable(alloc, ring, 0)?,
-        &Part::variable(alloc, ring, 1)?,
-    )?;
-    let b = sum(
-        alloc,
-        ring,
-        &Part::variable(alloc, ring, 2)?,
-        &Part::variable(alloc, ring, 3)?,
-    )?;
-    let c = sum(
-        alloc,
-        ring,
-        &Part::variable(alloc, ring, 4)?,
-        &Part::variable(alloc, ring, 5)?,
-    )?;
-    let d = sum(
-        alloc,
-        ring,
-        &Part::variable(alloc, ring, 6)?,
-        &Part::variable(alloc, ring, 7)?,
-    )?;
-    let left = sum(alloc, ring, &a, &b)?;
-    let right = sum(alloc, ring, &c, &d)?;
-    let left2 = product(alloc, ring, &left, &left)?;
-    let four = product(alloc, ring, &left2, &left2)?;
-    let right2 = product(alloc, ring, &right, &right)?;
-    let right4 = product(alloc, ring, &right2, &right2)?;
-    let five = product(alloc, ring, &right4, &right)?;
+    let left = four_variables(alloc, ring, 0)?;
+    let right = four_variables(alloc, ring, 4)?;
+    let four = power(alloc, ring, &left, 4)?;
+    let five = power(alloc, ring, &right, 5)?;
     let nine = product(alloc, ring, &four, &five)?;
     // C(7, 3) * C(8, 3) terms, and 4! * 5! / 2! at one that has a square of the fifth variable
     assert_eq!(rt; nine.terms().len(), 1960);

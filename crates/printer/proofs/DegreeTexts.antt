@@ -73,8 +73,9 @@ module _ (names : List (List ℕ)) (part : ℕ → PartValue) (D : ℕ) where
       none r d is = omega arith
 
   -- the degrees from r on are left, and whether some terms were written is known
-  pub record IsRowFrom (old now : Option (List ℕ)) (before count : ℕ) (r : ℕ) (some : Bool) : Type 0 where
-    pub left : IsLeft old now before count (listed false whole) (listed some (texts_from r))
+  pub record IsRowFrom (old now : Option (List ℕ)) (before count : ℕ) (held kept : List ℕ) (r : ℕ) (some : Bool) :
+      Type 0 where
+    pub left : IsLeft old now before count held kept (listed false whole) (listed some (texts_from r))
     pub behind : has_texts whole ≡ some || has_texts (texts_from r)
 
   -- the text that is left, with that of degree r first

@@ -1,37 +1,55 @@
--- What std's `strip_prefix` answers.
-use Rattle.std.proofs.Common.{◌≡◌, ℕ, Bool, true, false, cond, List, [], ◌∷◌, length, take, drop, Option, Some, None}
-use Rattle.std.proofs.Common.{refl, sym, ◌∙◌, ap, eqb, ◌&&◌, ◌+◌}
-use mathlib.Core.Bool.{true≢false}
-use Rattle.std.specs.Option.{MatchOption}
-use denote.Bor.{Bor}
-use lib.Pointwise.{pointwise}
-use Rattle.printer.specs.ReadForms.{Gives, strip}
+-- A text that is compared with a beginning, byte by byte.
+use Rattle.std.proofs.Common.{◌≡◌, ℕ, zero, suc, ◌<◌, ◌≤◌, ◌+◌, Bool, true, false, cond, List, [], ◌∷◌, length, drop}
+use Rattle.std.proofs.Common.{Option, Some, None, get_or, refl, sym, ◌∙◌, ap, eqb, add-one, arith}
+use Rattle.std.proofs.lemmas.Bool.{eq-eqb, ne_eqb}
+use Rattle.printer.specs.ReadForms.{strip}
 
--- a test and the rest, where both are wanted
-unless_both : {A : Type 0} (v w : Bool) (x : Option A) → (v && w) ≡ false → (w ≡ false → x ≡ None) →
-    cond v x None ≡ None
-unless_both true w x h rest = rest h
-unless_both false w x h rest = refl
+none_behind : (v : Bool) (x : Option (List ℕ)) → x ≡ None → cond v x None ≡ None
+none_behind true x is = is
+none_behind false x is = refl
 
-if_both : {A : Type 0} (v w : Bool) (x y : Option A) → (v && w) ≡ true → (w ≡ true → x ≡ y) → cond v x None ≡ y
-if_both true w x y h rest = rest h
-if_both false w x y h rest = absurd (true≢false (sym h))
+-- a beginning that is longer than the text
+pub strip_short : (t bs : List ℕ) → length bs < length t → strip t bs ≡ None
+strip_short [] bs h = absurd (omega arith)
+strip_short (t ∷ ts) [] h = refl
+strip_short (t ∷ ts) (b ∷ bs) h = none_behind (eqb b t) (strip ts bs) (strip_short ts bs (omega arith))
 
-strip_none : (t bs : List ℕ) → pointwise eqb (take (length t) bs) t ≡ false → strip t bs ≡ None
-strip_none [] bs h = absurd (true≢false h)
-strip_none (t ∷ ts) [] h = refl
-strip_none (t ∷ ts) (b ∷ bs) h =
-    unless_both (eqb b t) (pointwise eqb (take (length ts) bs) ts) (strip ts bs) h (strip_none ts bs)
+-- a byte that is the same
+strip_next : (t bs : List ℕ) (i : ℕ) → i < length t → i < length bs → get_or bs i 0 ≡ get_or t i 0
+    → strip (drop i t) (drop i bs) ≡ strip (drop (suc i) t) (drop (suc i) bs)
+strip_next [] bs i lt lt' same = absurd (omega arith)
+strip_next (t ∷ ts) [] i lt lt' same = absurd (omega arith)
+strip_next (t ∷ ts) (b ∷ bs) zero lt lt' same = rw (eq-eqb b t same) refl
+strip_next (t ∷ ts) (b ∷ bs) (suc i) lt lt' same = strip_next ts bs i (omega arith) (omega arith) same
 
-strip_some : (t bs : List ℕ) → pointwise eqb (take (length t) bs) t ≡ true → strip t bs ≡ Some (drop (length t) bs)
-strip_some [] bs h = refl
-strip_some (t ∷ ts) [] h = absurd (true≢false (sym h))
-strip_some (t ∷ ts) (b ∷ bs) h =
-    if_both (eqb b t) (pointwise eqb (take (length ts) bs) ts) (strip ts bs) (Some (drop (length ts) bs)) h
-    (strip_some ts bs)
+-- the places up to i are the same
+abbrev pub IsSameTo : List ℕ → List ℕ → ℕ → Type 0
+IsSameTo t bs i = strip t bs ≡ strip (drop i t) (drop i bs)
 
-pub strip_answer : (t bs : List ℕ) (r : Option (Bor (List ℕ)))
-    → MatchOption r (pointwise eqb (take (length t) bs) t ≡ false) (λ x. (pointwise eqb (take (length t) bs) t ≡ true)
-    × (x.now ≡ drop (length t) bs) × (length x.now + length t ≡ length bs)) → Gives (λ p. p.now) r (strip t bs)
-strip_answer t bs None h = strip_none t bs h
-strip_answer t bs (Some x) h = strip_some t bs h.0 ∙ ap (λ (l : List ℕ). Some l) (sym h.1)
+pub same_more : (t bs : List ℕ) (i : ℕ) → i < length t → i < length bs → get_or bs i 0 ≡ get_or t i 0
+    → IsSameTo t bs i → IsSameTo t bs (i + 1)
+same_more t bs i lt lt' same so_far = so_far ∙ strip_next t bs i lt lt' same
+    ∙ ap (λ k. strip (drop k t) (drop k bs)) (sym (add-one i))
+
+-- a byte that differs
+strip_other : (t bs : List ℕ) (i : ℕ) → i < length t → i < length bs → (get_or bs i 0 ≡ get_or t i 0 → ⊥)
+    → strip (drop i t) (drop i bs) ≡ None
+strip_other [] bs i lt lt' other = absurd (omega arith)
+strip_other (t ∷ ts) [] i lt lt' other = absurd (omega arith)
+strip_other (t ∷ ts) (b ∷ bs) zero lt lt' other = rw (ne_eqb b t other) refl
+strip_other (t ∷ ts) (b ∷ bs) (suc i) lt lt' other = strip_other ts bs i (omega arith) (omega arith) other
+
+pub differs : (t bs : List ℕ) (i : ℕ) → i < length t → i < length bs → (get_or bs i 0 ≡ get_or t i 0 → ⊥)
+    → IsSameTo t bs i → strip t bs ≡ None
+differs t bs i lt lt' other so_far = so_far ∙ strip_other t bs i lt lt' other
+
+-- all are the same
+strip_end : (t bs : List ℕ) (i : ℕ) → length t ≤ i → strip (drop i t) bs ≡ Some bs
+strip_end [] bs zero h = refl
+strip_end [] bs (suc i) h = refl
+strip_end (t ∷ ts) bs zero h = absurd (omega arith)
+strip_end (t ∷ ts) bs (suc i) h = strip_end ts bs i (omega arith)
+
+pub all_same : (t bs : List ℕ) (i : ℕ) → i ≡ length t → IsSameTo t bs i → strip t bs ≡ Some (drop (length t) bs)
+all_same t bs i is so_far = so_far ∙ strip_end t (drop i bs) i (omega arith)
+    ∙ ap (λ k. Some (drop k bs)) is

@@ -1,12 +1,17 @@
 -- The texts of terms, one piece after another.
-use Rattle.std.proofs.Common.{◌≡◌, ℕ, zero, suc, ◌+◌, ◌<◌, Bool, true, false, ◌||◌, List, [], ◌∷◌, ◌++◌, Some, length}
+use Rattle.std.proofs.Common.{◌≡◌, ℕ, zero, suc, ◌+◌, ◌<◌, ◌≤◌, Bool, true, false, ◌||◌, ◌&&◌, List, [], ◌∷◌, ◌++◌}
+use Rattle.std.proofs.Common.{Some, length, leb, subst}
 use Rattle.std.proofs.Common.{get_or, take, drop, map, All, cond, append_assoc, refl, sym, ◌∙◌, ap, arith}
 use Rattle.std.specs.Prelude.{◌==◌, not, codes, slice_get}
 use Rattle.std.specs.FinMap.{entries}
 use Rattle.std.specs.List.{filter, flat_map}
-use Rattle.std.proofs.lemmas.Bool.{ne_eqb}
+use Rattle.std.proofs.lemmas.Bool.{ne_eqb, and_parts, leb-true, true≢false}
 use Rattle.std.proofs.lemmas.List.{append-nil, drop_more, length-map}
 use Rattle.std.proofs.lemmas.Option.{none-some, same_Some}
+use Rattle.std.specs.Char.{is_ascii_alphabetic}
+use Rattle.std.specs.List.{list_all}
+use Rattle.std.specs.Str.{bytes_eq}
+use Rattle.ps_model.specs.Names.{AreNames, is_name_byte, is_name}
 use Rattle.ps_model.specs.Keys.{Key, Powers, numbers, powers_of}
 use Rattle.ps_model.specs.BlockText.{power_text, powers_text, term_text, terms_text}
 use Rattle.parts.specs.declared.terms.Term.{Term}
@@ -38,6 +43,28 @@ name_among (x ∷ all) (suc count) (suc i) name lt is =
   where
     further : (n : ℕ) → i < n → suc i < suc n
     further n h = omega arith
+
+-- a name has at most 16 bytes
+name_bytes : (name : List ℕ) → is_name name ≡ true → length name ≤ 16
+name_bytes [] h = absurd (true≢false (sym h))
+name_bytes (b ∷ bs) h =
+    let three = (and_parts ((is_ascii_alphabetic b && list_all is_name_byte bs) && leb (length bs) 15)
+    (not (bytes_eq (b ∷ bs) (codes "Y"))) h).0 in
+    let few : length bs ≤ 15 = leb-true (length bs) 15
+    (and_parts (is_ascii_alphabetic b && list_all is_name_byte bs) (leb (length bs) 15) three).1 in
+    omega arith
+
+names_short : (names : List (List ℕ)) (i : ℕ) (name : List ℕ) → list_all is_name names ≡ true
+    → slice_get names i ≡ Some name → length name ≤ 16
+names_short [] i name h is = absurd (none-some name is)
+names_short (n ∷ names) zero name h is = subst (λ (l : List ℕ). length l ≤ 16) (same_Some n name is)
+    (name_bytes n (and_parts (is_name n) (list_all is_name names) h).0)
+names_short (n ∷ names) (suc i) name h is =
+    names_short names i name (and_parts (is_name n) (list_all is_name names) h).1 is
+
+pub name_short : (names : List (List ℕ)) (i : ℕ) (name : List ℕ) → AreNames names → slice_get names i ≡ Some name
+    → length name ≤ 16
+name_short names i name are is = names_short names i name are.each is
 
 -- one more power
 pub power_left : (n : ℕ) (all : List (List ℕ)) (count i p : ℕ) (name xs : List ℕ) → i < count → i < n
@@ -75,16 +102,6 @@ text_left names terms i t lt is =
     at names [] i t lt is = refl
     at names (x ∷ terms) zero t lt is = ap (λ u. term_text names (entry_of u)) (sym is)
     at names (x ∷ terms) (suc i) t lt is = at names terms i t (omega arith) is
-
--- with a plus sign, and without one
-pub marked : (behind : Bool) (text : List ℕ) (texts left : List (List ℕ)) → left ≡ text ∷ texts → behind ≡ true
-    → listed behind left ≡ codes " + " ++ (text ++ listed true texts)
-marked behind text texts left is true_is = (λ i. listed (true_is i) (is i)) ∙ append_assoc (codes " + ") text
-    (listed true texts)
-
-pub unmarked : (behind : Bool) (text : List ℕ) (texts left : List (List ℕ)) → left ≡ text ∷ texts → behind ≡ false
-    → listed behind left ≡ text ++ listed true texts
-unmarked behind text texts left is false_is = λ i. listed (false_is i) (is i)
 
 -- whether there is a text among more
 pub has_texts-append : (ts us : List (List ℕ)) → has_texts (ts ++ us) ≡ has_texts ts || has_texts us

@@ -3,6 +3,7 @@ pub mod Rows
 pub mod Lines
 pub mod Texts
 pub mod Wrote
+pub mod Buffered
 pub mod ReadForms
 pub mod ReadLaw
 pub mod ReadBlock

@@ -1,5 +1,6 @@
 -- The lines of coefficients, from their parts.
 --     texts_of names ts      the text of each term
+--     sign some      the plus sign before a term, where some are written already
 --     listed some texts      the texts, each with a plus sign before it; before the first one only where
 --         some are written already
 --     has_texts texts      whether there is a text
@@ -15,9 +16,12 @@ use Rattle.printer.specs.Rows.{terms_up_to}
 abbrev pub texts_of : {n : ℕ} → List (List ℕ) → List (Key n × ℕ) → List (List ℕ)
 texts_of names ts = map (term_text names) ts
 
+abbrev pub sign : Bool → List ℕ
+sign some = if some then codes " + " else []
+
 abbrev pub listed : Bool → List (List ℕ) → List ℕ
 listed some [] = []
-listed some (text ∷ texts) = (if some then codes " + " else []) ++ text ++ listed true texts
+listed some (text ∷ texts) = sign some ++ text ++ listed true texts
 
 abbrev pub has_texts : List (List ℕ) → Bool
 has_texts [] = false

@@ -5,7 +5,8 @@
 mod coefficients;
 mod view;
 
-// pieces, terms, and lines of terms
+// bytes that are held for a sink; pieces, terms, and lines of terms
+mod buffer;
 mod lines;
 mod putting;
 mod terms;

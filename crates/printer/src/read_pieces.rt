@@ -11,7 +11,15 @@ use ps_model::{NameView, PlainTerm};
 pub fn strip<'a>(bytes: &'a [u8], text: &[u8]) -> Option<&'a [u8]>
     ensures { Gives (λ p. p.now) result (strip_text text.now bytes.now) }
 {
-    bytes.strip_prefix(text)
+    if bytes.len() < text.len() {
+        return None;
+    }
+    for i in 0..text.len() {
+        if bytes[i] != text[i] {
+            return None;
+        }
+    }
+    Some(&bytes[text.len()..])
 }
 
 /// The number of the digits that the bytes begin with, where it is at most the limit, and what is
@@ -19,14 +27,18 @@ pub fn strip<'a>(bytes: &'a [u8], text: &[u8]) -> Option<&'a [u8]>
 fn digits(bytes: &[u8], limit: u64) -> Option<(u64, &[u8])>
     ensures { Gives (λ p. (p.0, p.1.now)) result (up_to limit (digits_from 0 bytes.now)) }
 {
+    let most_before = limit / 10;
     let mut value = 0u64;
     let mut next = 0usize;
     while next < bytes.len() && bytes[next].is_ascii_digit() {
-        let longer = 10 * u128::from(value) + u128::from(bytes[next] - b'0');
-        if longer > u128::from(limit) {
+        if value > most_before {
             return None;
         }
-        value = longer as u64;
+        let digit = u64::from(bytes[next] - b'0');
+        if digit > limit - 10 * value {
+            return None;
+        }
+        value = 10 * value + digit;
         next += 1;
     }
     Some((value, &bytes[next..]))

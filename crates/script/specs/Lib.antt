@@ -7,3 +7,5 @@ pub mod Sayings
 pub mod Requests
 pub mod Answers
 pub mod Script
+pub mod Blocks
+pub mod Checking

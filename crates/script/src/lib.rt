@@ -12,8 +12,10 @@ mod names;
 mod roots;
 
 // the lines behind it
+mod block;
 mod request;
 
+pub use block::block_line;
 pub use header::{Header, Said};
 pub use refusal::{Keyword, Refusal, Refused};
 pub use request::{Request, request_of};

@@ -1,7 +1,7 @@
-//! Requests, and lines that are skipped.
+//! Requests, the line `block`, and lines that are skipped.
 use parts::Ring;
 use residue::Modulus;
-use script::{Keyword, Refusal, Request, is_skipped, request_of};
+use script::{Keyword, Refusal, Request, block_line, is_skipped, request_of};
 use std::test::Fail;
 
 /// The ring modulo 101 of two variables.
@@ -101,4 +101,15 @@ fn keywords_are_spelled(rt: HostRuntime) {
     assert_eq!(rt; Keyword::Poly.text(), "poly");
     assert_eq!(rt; Keyword::Roots.text(), "roots");
     assert_eq!(rt; Keyword::Block.text(), "block");
+}
+
+#[test]
+fn a_block_begins_behind_one_word(rt: HostRuntime) {
+    assert_eq!(rt; block_line(b"\tblock "), Ok(()));
+    assert_eq!(rt; block_line(b"block block"), Err(Refusal::BadBlock));
+    assert_eq!(rt;
+        block_line(b"blocks"),
+        Err(Refusal::Expected(Keyword::Block))
+    );
+    assert_eq!(rt; block_line(b" "), Err(Refusal::Expected(Keyword::Block)));
 }

@@ -1,10 +1,7 @@
 -- Sums of the known parts of nodes, one term after the other.
 use Rattle.std.proofs.Common.{◌≡◌, ℕ, ◌+◌, ◌<◌, ◌⊎◌, inl, inr, List, [], ◌∷◌, length, get_or, drop, refl}
 use Rattle.std.proofs.Common.{sym, ◌∙◌, ap, subst, arith}
-use Rattle.std.specs.Arc.{arc_value}
 use Rattle.std.specs.FinMap.{empty}
-use Rattle.std.specs.declared.alloc.Global.{Global}
-use Rattle.std.specs.declared.sync.Arc.{Arc}
 use Rattle.std.proofs.lemmas.Bool.{cases_lt}
 use Rattle.std.proofs.lemmas.List.{get_or-map, get_or_past, length-map, drop_more}
 use Rattle.std.proofs.Math.Seq.{drop-length}
@@ -14,14 +11,13 @@ use Rattle.ps_model.proofs.Images.{scaled_one}
 use Rattle.ps_model.proofs.RingLaws.{sum-zero}
 use Rattle.parts.specs.AccumulatorValue.{AccumulatorValue}
 use Rattle.parts.specs.PartValue.{PartValue}
-use Rattle.parts.specs.RowsOfParts.{parts_of, part_in}
+use Rattle.parts.specs.RowsOfParts.{part_in}
 use Rattle.parts.specs.Series.{series, polynomial_in}
 use Rattle.parts.specs.declared.rings.Ring.{Ring}
 use Rattle.parts.proofs.Polynomials.{polynomial_in-empty}
 use Rattle.units.specs.SeriesParts.{IsPartAt, AreSeriesParts, Changes}
 use Rattle.units.proofs.Added.{no_multiple}
-use Rattle.units.proofs.NextParts.{crossed}
-use Rattle.units.proofs.PartsRead.{parts_count, read_is}
+use Rattle.units.proofs.Crossed.{crossed}
 use Rattle.series_graph.specs.Formula.{place_of, formula_of}
 use Rattle.series_graph.specs.GraphValue.{known_at, IsGraph}
 use Rattle.series_graph.specs.Meaning.{combination}
@@ -33,34 +29,33 @@ use Rattle.series_graph.proofs.SumsSoFar.{IsSumSoFar, sum-more}
 
 -- the parts that a node holds
 pub known_read : (nodes : List Node) (i : ℕ) (x : Node) → i < length nodes
-    → parts_of (get_or nodes i x).known.items ≡ get_or (known_in nodes) i []
-known_read nodes i x lt = sym (get_or-map (λ (n : Node). parts_of n.known.items) nodes i x [] lt)
+    → (get_or nodes i x).known ≡ get_or (known_in nodes) i []
+known_read nodes i x lt = sym (get_or-map (λ (n : Node). n.known) nodes i x [] lt)
 
 -- a node with a part is there
 pub known_within : (nodes : List Node) (i r : ℕ) → r < length (get_or (known_in nodes) i []) → i < length nodes
 known_within nodes i r lt = elim (cases_lt i (length nodes)) as (λ _. i < length nodes) [
   | inl low ↦ low
   | inr high ↦
-      let count = length-map nodes (λ (n : Node). parts_of n.known.items) in
+      let count = length-map nodes (λ (n : Node). n.known) in
       let none = ap length (get_or_past (known_in nodes) i [] (omega arith)) in absurd (omega arith)
 ]
 
-module _ (ring : Ring) (nodes : List Node) (is : IsGraph (graph_of ring nodes)) where
-  pub node_parts : (i : ℕ) (x : Node) → i < length nodes → AreSeriesParts ring (parts_of (get_or nodes i x).known.items)
-  node_parts i x lt = subst (AreSeriesParts ring) (sym (known_read nodes i x lt))
+module _ (ring : Ring) (nodes : List Node) (is : IsGraph (graph_of ring nodes)) (i : ℕ) (x : Node)
+    (lt : i < length nodes) where
+  pub node_parts : AreSeriesParts ring (get_or nodes i x).known
+  node_parts = subst (AreSeriesParts ring) (sym (known_read nodes i x lt))
       (λ r below. (is.known_are i r
       (let n = length-map nodes (λ (n : Node). formula_of n.form) in omega arith) below).part)
 
   -- a known part that is read
-  pub node_part : (i r : ℕ) (x : Node) (a : Arc PartValue Global) (p : PartValue)
-      → r < length (known_at (graph_of ring nodes) i) → a ≡ get_or (get_or nodes i x).known.items r a
-      → p ≡ arc_value a → (p ≡ part_in (get_or (known_in nodes) i []) r) × IsPartAt ring r p
-  node_part i r x a p lt at value =
-      let inside = known_within nodes i r lt in
-      let count = parts_count (get_or nodes i x).known.items in
-      let same = ap length (known_read nodes i x inside) in
-      let read = read_is ring (get_or nodes i x).known.items r a p (node_parts i x inside) (omega arith) at value in
-      (read.0 ∙ ap (λ ps. part_in ps r) (known_read nodes i x inside), read.1)
+  pub node_part : (r : ℕ) (p : PartValue) → r < length (known_at (graph_of ring nodes) i) → p ≡ part_in (get_or nodes i x).known r
+      → (p ≡ part_in (get_or (known_in nodes) i []) r) × IsPartAt ring r p
+  node_part r p some read =
+      let count = ap length (known_read nodes i x lt) in (
+        read ∙ ap (λ ps. part_in ps r) (known_read nodes i x lt),
+        subst (IsPartAt ring r) (sym read) (node_parts r (omega arith)),
+      )
 
 -- the sum of each number times the part of degree r of its node
 unfoldable pub multiples_known : (ring : Ring) → List (List PartValue) → ℕ → List (ℕ × NodeId) → Poly (series ring)

@@ -2,7 +2,6 @@
 use Rattle.std.proofs.Common.{◌≡◌, ℕ, ◌<◌, List, [], ◌∷◌, ◌++◌, length, get_or, sym, ◌∙◌, ap, subst, arith}
 use Rattle.std.specs.List.{All}
 use Rattle.std.specs.declared.alloc.Global.{Global}
-use Rattle.std.specs.declared.sync.Arc.{Arc}
 use Rattle.std.specs.declared.vec.Vec.{Vec}
 use Rattle.std.proofs.lemmas.List.{length-map}
 use Rattle.ps_model.specs.Bounds.{IsUnit}
@@ -11,11 +10,10 @@ use Rattle.ps_model.specs.Notation.{homogeneous_part, monomial}
 use Rattle.ps_model.specs.Value.{variable}
 use Rattle.parts.specs.PartValue.{PartValue, IsPartOf}
 use Rattle.parts.specs.Rings.{modulus_of}
-use Rattle.parts.specs.RowsOfParts.{parts_of, part_in}
+use Rattle.parts.specs.RowsOfParts.{part_in}
 use Rattle.parts.specs.Series.{series, constant_of}
 use Rattle.parts.specs.declared.rings.Ring.{Ring}
 use Rattle.units.specs.SeriesParts.{AreSeriesParts, series_of, AreQuotientParts}
-use Rattle.units.proofs.PartsRead.{parts_count}
 use Rattle.series_graph.specs.Formula.{place_of, formula_of, Formula, Combination, Dot}
 use Rattle.series_graph.specs.Formula.{Quotient, EachNamed}
 use Rattle.series_graph.specs.GraphValue.{known_at, size_of, IsKnownPart, IsGraph}
@@ -46,10 +44,9 @@ module _ (ring : Ring) (nodes : List Node) (is : IsGraph (graph_of ring nodes)) 
   named_as φ same = subst (λ (ψ : Formula). EachNamed
       (λ j. length (known_at (graph_of ring nodes) i) < length (known_at (graph_of ring nodes) j)) ψ) same named
 
-  module _ (r : ℕ) (count : r ≡ x.known.len) where
+  module _ (r : ℕ) (count : r ≡ length x.known) where
     known_count : r ≡ length (known_at (graph_of ring nodes) i)
-    known_count = let same = ap length (own_parts nodes i x lt at) in
-        let n = parts_count x.known.items in let m = x.known.ok in omega arith
+    known_count = count ∙ ap length (own_parts nodes i x lt at)
 
     pub next_is_number : (c : ℕ) (p : PartValue) → x.form ≡ form.Number c
         → IsPartWith ring r (homogeneous_part r (monomial c (y_key (series ring).variables 0))) p → IsNextPart p
@@ -89,57 +86,66 @@ module _ (ring : Ring) (nodes : List Node) (is : IsGraph (graph_of ring nodes)) 
         × (n < length (known_at (graph_of ring nodes) (place_of t.1)))) items) (sym known_count)
         (named_as (Dot items) (form_at nodes i x (form.Dot of) lt at holds ∙ ap Dot (sym same)))
 
-  module _ (a b : NodeId) (holds : x.form ≡ form.Quotient a b) (y z : Node)
-      (row_a row_b own : List (Arc PartValue Global)) (a_is : row_a ≡ (get_or nodes (place_of a) y).known.items)
-      (b_is : row_b ≡ (get_or nodes (place_of b) z).known.items) (own_is : own ≡ x.known.items) where
+  module _ (a b : NodeId) (holds : x.form ≡ form.Quotient a b) (y z : Node) where
     formula : formula_at (formulas_in nodes) i ≡ Quotient a b
     formula = form_at nodes i x (form.Quotient a b) lt at holds
 
-    of_a : parts_of row_a ≡ known_at (graph_of ring nodes) (place_of a)
-    of_a = ap parts_of a_is ∙ known_read nodes (place_of a) y
+    -- the known parts of the dividend and of the divisor
+    abbrev pub dividend : List PartValue
+    dividend = (get_or nodes (place_of a) y).known
+
+    abbrev pub divisor : List PartValue
+    divisor = (get_or nodes (place_of b) z).known
+
+    of_a : dividend ≡ known_at (graph_of ring nodes) (place_of a)
+    of_a = known_read nodes (place_of a) y
         (known_within nodes (place_of a) (length (known_at (graph_of ring nodes) i))
         (named_as (Quotient a b) formula).0)
 
-    of_b : parts_of row_b ≡ known_at (graph_of ring nodes) (place_of b)
-    of_b = ap parts_of b_is ∙ known_read nodes (place_of b) z
+    of_b : divisor ≡ known_at (graph_of ring nodes) (place_of b)
+    of_b = known_read nodes (place_of b) z
         (known_within nodes (place_of b) (length (known_at (graph_of ring nodes) i))
         (named_as (Quotient a b) formula).1)
 
-    of_own : parts_of own ≡ known_at (graph_of ring nodes) i
-    of_own = ap parts_of own_is ∙ own_parts nodes i x lt at
+    of_own : x.known ≡ known_at (graph_of ring nodes) i
+    of_own = own_parts nodes i x lt at
 
-    pub quotient_unit : IsUnit (modulus_of ring) (constant_of ring (part_in (parts_of row_b) 0))
+    pub quotient_enough : (length x.known < length dividend) × (length x.known < length divisor)
+    quotient_enough =
+        let more = named_as (Quotient a b) formula in
+        let own = ap length of_own in let first = ap length of_a in let second = ap length of_b in
+        let first_more = more.0 in let second_more = more.1 in
+        (omega arith, omega arith)
+
+    pub quotient_unit : IsUnit (modulus_of ring) (constant_of ring (part_in divisor 0))
     quotient_unit = subst (λ (ps : List PartValue). IsUnit (modulus_of ring) (constant_of ring (part_in ps 0)))
         (sym of_b) (divisor_unit (graph_of ring nodes) is i inside a b formula (named_as (Quotient a b) formula))
 
-    pub quotient_parts : AreSeriesParts ring (parts_of row_a) × AreSeriesParts ring (parts_of row_b)
-        × AreSeriesParts ring (parts_of own)
+    pub quotient_parts : AreSeriesParts ring dividend × AreSeriesParts ring divisor × AreSeriesParts ring x.known
     quotient_parts = (
       subst (AreSeriesParts ring) (sym of_a) (named_parts (graph_of ring nodes) is i inside a b formula).0,
       subst (AreSeriesParts ring) (sym of_b) (named_parts (graph_of ring nodes) is i inside a b formula).1,
       subst (AreSeriesParts ring) (sym of_own) (known_parts (graph_of ring nodes) is i inside),
     )
 
-    pub quotient_own : AreQuotientParts ring (series_of ring (parts_of row_a)) (series_of ring (parts_of row_b))
-        (parts_of own)
+    pub quotient_own : AreQuotientParts ring (series_of ring dividend) (series_of ring divisor) x.known
     quotient_own = subst (λ (ps : List PartValue). AreQuotientParts ring (series_of ring ps)
-        (series_of ring (parts_of row_b)) (parts_of own)) (sym of_a)
+        (series_of ring divisor) x.known) (sym of_a)
         (subst (λ (ps : List PartValue). AreQuotientParts ring
-        (series_of ring (known_at (graph_of ring nodes) (place_of a))) (series_of ring ps) (parts_of own)) (sym of_b)
+        (series_of ring (known_at (graph_of ring nodes) (place_of a))) (series_of ring ps) x.known) (sym of_b)
         (subst (AreQuotientParts ring (series_of ring (known_at (graph_of ring nodes) (place_of a)))
         (series_of ring (known_at (graph_of ring nodes) (place_of b)))) (sym of_own)
         (own_first (graph_of ring nodes) is i inside a b formula (named_as (Quotient a b) formula))))
 
-    pub next_is_quotient : (p : PartValue) → p.degree ≡ length own → IsPartOf ring p
-        → AreQuotientParts ring (series_of ring (parts_of row_a)) (series_of ring (parts_of row_b))
-        (parts_of own ++ p ∷ []) → IsNextPart p
+    pub next_is_quotient : (p : PartValue) → p.degree ≡ length x.known → IsPartOf ring p
+        → AreQuotientParts ring (series_of ring dividend) (series_of ring divisor) (x.known ++ p ∷ []) → IsNextPart p
     next_is_quotient p degree part parts = next_quotient (graph_of ring nodes) is i inside p a b formula
-        (named_as (Quotient a b) formula) (degree ∙ sym (parts_count own) ∙ ap length of_own, part)
+        (named_as (Quotient a b) formula) (degree ∙ ap length of_own, part)
         (subst (λ (ps : List PartValue). AreQuotientParts ring
         (series_of ring (known_at (graph_of ring nodes) (place_of a)))
         (series_of ring (known_at (graph_of ring nodes) (place_of b))) (ps ++ p ∷ [])) of_own
         (subst (λ (ps : List PartValue). AreQuotientParts ring
-        (series_of ring (known_at (graph_of ring nodes) (place_of a))) (series_of ring ps) (parts_of own ++ p ∷ []))
+        (series_of ring (known_at (graph_of ring nodes) (place_of a))) (series_of ring ps) (x.known ++ p ∷ []))
         of_b
         (subst (λ (ps : List PartValue). AreQuotientParts ring (series_of ring ps)
-        (series_of ring (parts_of row_b)) (parts_of own ++ p ∷ [])) of_a parts)))
+        (series_of ring divisor) (x.known ++ p ∷ [])) of_a parts)))

@@ -2,13 +2,9 @@
 use Rattle.std.proofs.Common.{◌≡◌, ℕ, ◌<◌, Bool, false, List, [], ◌∷◌, ◌++◌, map, length}
 use Rattle.std.proofs.Common.{get_or, set}
 use Rattle.std.proofs.Common.{sym, ◌∙◌, ap, subst}
-use Rattle.std.specs.Arc.{arc_value}
-use Rattle.std.specs.declared.alloc.Global.{Global}
-use Rattle.std.specs.declared.sync.Arc.{Arc}
 use Rattle.std.specs.Prelude.{Result, Ok, Err, OnErr}
 use Rattle.std.proofs.lemmas.List.{get_or-map, get_or_default, map-append, map-set, set-get_or}
 use Rattle.parts.specs.PartValue.{PartValue}
-use Rattle.parts.specs.RowsOfParts.{parts_of}
 use Rattle.parts.specs.declared.rings.Ring.{Ring}
 use Rattle.series_graph.specs.Formula.{Formula, formula_of}
 use Rattle.series_graph.specs.Meaning.{formula_at}
@@ -30,8 +26,8 @@ form_at nodes i x form lt is holds = sym (formula_read nodes i x lt) ∙ ap (λ 
 
 -- its known parts
 pub own_parts : (nodes : List Node) (i : ℕ) (x : Node) → i < length nodes → x ≡ get_or nodes i x
-    → parts_of x.known.items ≡ get_or (known_in nodes) i []
-own_parts nodes i x lt is = ap (λ (n : Node). parts_of n.known.items) is ∙ known_read nodes i x lt
+    → x.known ≡ get_or (known_in nodes) i []
+own_parts nodes i x lt is = ap (λ (n : Node). n.known) is ∙ known_read nodes i x lt
 
 module _ (nodes : List Node) (i : ℕ) (x y : Node) (lt : i < length nodes) (is : x ≡ get_or nodes i x) where
   field_same : {B : Type 0} (f : Node → B) → f y ≡ f x → map f (set nodes i y) ≡ map f nodes
@@ -40,33 +36,31 @@ module _ (nodes : List Node) (i : ℕ) (x y : Node) (lt : i < length nodes) (is 
       ∙ set-get_or (map f nodes) i (f x)
 
   module _ (ring : Ring) (form : formula_of y.form ≡ formula_of x.form) (constant : y.constant ≡ x.constant) where
-    pub node_kept : y.known.items ≡ x.known.items → graph_of ring (set nodes i y) ≡ graph_of ring nodes
+    pub node_kept : y.known ≡ x.known → graph_of ring (set nodes i y) ≡ graph_of ring nodes
     node_kept known = λ j. record {
       ring = ring;
       formulas = field_same (λ (n : Node). formula_of n.form) form j;
       constants = field_same (λ (n : Node). n.constant) constant j;
-      known = field_same (λ (n : Node). parts_of n.known.items) (ap parts_of known) j;
+      known = field_same (λ (n : Node). n.known) known j;
     }
 
-    pub node_learned : (part : Arc PartValue Global) → y.known.items ≡ x.known.items ++ part ∷ []
-        → graph_of ring (set nodes i y) ≡ with_part (graph_of ring nodes) i (arc_value part)
+    pub node_learned : (part : PartValue) → y.known ≡ x.known ++ part ∷ []
+        → graph_of ring (set nodes i y) ≡ with_part (graph_of ring nodes) i part
     node_learned part known = λ j. record {
       ring = ring;
       formulas = field_same (λ (n : Node). formula_of n.form) form j;
       constants = field_same (λ (n : Node). n.constant) constant j;
-      known = (map-set (λ (n : Node). parts_of n.known.items) nodes i y ∙ ap (set (known_in nodes) i)
-          (ap parts_of known ∙ map-append arc_value x.known.items (part ∷ [])
-          ∙ ap (λ ps. ps ++ arc_value part ∷ []) (own_parts nodes i x lt is))) j;
+      known = (map-set (λ (n : Node). n.known) nodes i y ∙ ap (set (known_in nodes) i)
+          (known ∙ ap (λ ps. ps ++ part ∷ []) (own_parts nodes i x lt is))) j;
     }
 
-pub node_added : (ring : Ring) (nodes new : List Node) (y : Node) → new ≡ nodes ++ y ∷ [] → y.known.items ≡ []
+pub node_added : (ring : Ring) (nodes new : List Node) (y : Node) → new ≡ nodes ++ y ∷ [] → y.known ≡ []
     → graph_of ring new ≡ with_node (graph_of ring nodes) (formula_of y.form) y.constant
 node_added ring nodes new y is none = ap (graph_of ring) is ∙ (λ j. record {
   ring = ring;
   formulas = map-append (λ (n : Node). formula_of n.form) nodes (y ∷ []) j;
   constants = map-append (λ (n : Node). n.constant) nodes (y ∷ []) j;
-  known = (map-append (λ (n : Node). parts_of n.known.items) nodes (y ∷ [])
-      ∙ ap (λ row. known_in nodes ++ parts_of row ∷ []) none) j;
+  known = (map-append (λ (n : Node). n.known) nodes (y ∷ []) ∙ ap (λ ps. known_in nodes ++ ps ∷ []) none) j;
 })
 
 -- the marks of a graph's nodes

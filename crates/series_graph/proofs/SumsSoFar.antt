@@ -1,5 +1,5 @@
 -- A sum that is added up in an accumulator: what it holds and what is left are the whole.
-use Rattle.std.proofs.Common.{◌≡◌, ℕ, suc, ◌+◌, ◌-◌, List, refl, sym}
+use Rattle.std.proofs.Common.{◌≡◌, ℕ, suc, ◌+◌, ◌-◌, ◌<◌, ◌≤◌, List, refl, sym}
 use Rattle.std.proofs.Common.{◌∙◌, ap, subst, arith, add-one}
 use Rattle.std.specs.FinMap.{empty}
 use Rattle.ps_model.specs.Notation.{zero as nought, sum, sum_to, sum_between, product}
@@ -13,7 +13,7 @@ use Rattle.parts.specs.Series.{series, polynomial_in}
 use Rattle.parts.specs.declared.rings.Ring.{Ring}
 use Rattle.parts.proofs.Polynomials.{polynomial_in-empty}
 use Rattle.units.specs.SeriesParts.{Changes}
-use Rattle.units.proofs.NextParts.{crossed}
+use Rattle.units.proofs.Crossed.{crossed, crossed-zeros}
 use Rattle.series_graph.specs.Sums.{IsPartWith}
 
 -- the sum when rest is left of it
@@ -51,7 +51,7 @@ module _ (ring : Ring) (r : ℕ) (whole : Poly (series ring)) where
         ∙ ap (sum (polynomial_in ring acc.map)) (sym none) ∙ all.total,
   )
 
--- the sum with the products of parts below s added
+-- the sum with the products a(i) * b(r-i) of i < s added
 pub record HasProducts (a b : List PartValue) (r s : ℕ) (old acc : AccumulatorValue) : Type 0 where
   pub ring_is : acc.ring ≡ old.ring
   pub degree_is : acc.degree ≡ old.degree
@@ -89,6 +89,16 @@ module _ (a b : List PartValue) (r : ℕ) (old : AccumulatorValue) where
             (sym (sum_between-suc (ring_of (series old.ring)) 0 s (crossed old.ring a b r) (omega arith))
             ∙ ap (λ n. sum_between 0 n (crossed old.ring a b r)) (sym (add-one s)));
       }
+
+  -- nothing is added by the products with zero parts of b
+  pub products-zeros : (s t : ℕ) (acc : AccumulatorValue) → HasProducts a b r s old acc → s ≤ t
+      → ((i : ℕ) → s ≤ i → i < t → (part_in b (r - i)).map ≡ empty) → HasProducts a b r t old acc
+  products-zeros s t acc before le zeros = record {
+    ring_is = before.ring_is;
+    degree_is = before.degree_is;
+    value = before.value
+        ∙ ap (sum (polynomial_in old.ring old.map)) (crossed-zeros old.ring a b r s t le zeros);
+  }
 
   pub products-all : (s : ℕ) (acc : AccumulatorValue) → s ≡ suc r → HasProducts a b r s old acc
       → Changes old.ring old acc (sum_to r (crossed old.ring a b r))

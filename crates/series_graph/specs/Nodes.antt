@@ -3,7 +3,6 @@
 --     graph_of ring nodes      the graph that they are
 use Rattle.std.specs.Prelude.{ℕ, List, map}
 use Rattle.parts.specs.PartValue.{PartValue}
-use Rattle.parts.specs.RowsOfParts.{parts_of}
 use Rattle.parts.specs.declared.rings.Ring.{Ring}
 use Rattle.series_graph.specs.Formula.{Formula, formula_of}
 use Rattle.series_graph.specs.GraphValue.{GraphValue}
@@ -16,7 +15,7 @@ abbrev pub constants_in : List Node → List ℕ
 constants_in nodes = map (λ n. n.constant) nodes
 
 abbrev pub known_in : List Node → List (List PartValue)
-known_in nodes = map (λ n. parts_of n.known.items) nodes
+known_in nodes = map (λ n. n.known) nodes
 
 abbrev pub graph_of : Ring → List Node → GraphValue
 graph_of ring nodes = record {

@@ -2,7 +2,8 @@
 //!
 //! f(r) is the part of degree r of a series f. A combination's part is the sum of each number times
 //! the part of its node; that of a sum of products is the sum over the pairs a, b and over s from 0
-//! to r of a(s) * b(r-s).
+//! to r of a(s) * b(r-s). Of a and b the one with fewer parts that aren't zero says which s are looked
+//! at.
 ghost use Rattle.std.specs.Prelude.{◌≡◌, ℕ, ◌+◌, ◌-◌, ◌<◌, ◌≤◌, length, IfOk, OnOk};
 ghost use Rattle.std.specs.Arc.{arc_value};
 ghost use Rattle.std.specs.List.{All};
@@ -11,7 +12,7 @@ ghost use Rattle.ps_model.specs.Notation.{monomial, product, scaled, sum_to, hom
 ghost use Rattle.ps_model.specs.Value.{variable};
 ghost use Rattle.parts.specs.Rings.{modulus_of, variables_of};
 ghost use Rattle.parts.specs.PartValue.{IsPartOf};
-ghost use Rattle.parts.specs.RowsOfParts.{parts_of, part_in};
+ghost use Rattle.parts.specs.RowsOfParts.{part_in};
 ghost use Rattle.parts.specs.Series.{series, polynomial_in};
 ghost use Rattle.units.specs.SeriesParts.{AreSeriesParts, Changes};
 ghost use Rattle.series_graph.specs.Formula.{place_of, EachNamed};
@@ -25,7 +26,7 @@ use parts::{Accumulator, Part, Ring};
 use ps_model::OutOfMemory;
 use std::alloc::Global;
 use std::sync::Arc;
-use units::quotient_next;
+use units::{KnownParts, quotient_next_of};
 
 /// The part of degree r of a number.
 fn number_part(alloc: Global, ring: Ring, c: u64, r: u32) -> Result<Part, OutOfMemory>
@@ -78,25 +79,52 @@ fn add_product(sum: &mut Accumulator, f: &Part, g: &Part) -> Result<(), OutOfMem
     Ok(())
 }
 
+/// Adds the sum over s from r down to 0 of f(r-s) * g(s), and passes over the zero parts of g.
+fn add_products(
+    sum: &mut Accumulator,
+    f: &KnownParts,
+    g: &KnownParts,
+    r: usize,
+) -> Result<(), OutOfMemory>
+    requires degree { sum.old.degree ≡ r }
+    requires enough { (r < length f.now) × (r < length g.now) }
+    requires permitted { r ≤ 4095 }
+    requires f_parts { AreSeriesParts sum.old.ring f.now }
+    requires g_parts { AreSeriesParts sum.old.ring g.now }
+    ensures { OnOk result (Changes sum.old.ring sum.old sum.new (sum_to r (λ s. product
+        (polynomial_in sum.old.ring (part_in f.now s).map)
+        (polynomial_in sum.old.ring (part_in g.now (r - s)).map)))) }
+{
+    // the products of s >= end are added
+    let mut end = r + 1;
+    while end > 0 {
+        let s = end - 1;
+        add_product(sum, f.part(r - s), g.part(s))?;
+        end = g.below(s);
+    }
+    Ok(())
+}
+
 /// Adds the part of degree r of a * b: the sum over s from 0 to r of a(s) * b(r-s).
 fn add_product_part(
     sum: &mut Accumulator,
-    a: &[Arc<Part>],
-    b: &[Arc<Part>],
+    a: &KnownParts,
+    b: &KnownParts,
     r: usize,
 ) -> Result<(), OutOfMemory>
     requires degree { sum.old.degree ≡ r }
     requires enough { (r < length a.now) × (r < length b.now) }
-    requires a_parts { AreSeriesParts sum.old.ring (parts_of a.now) }
-    requires b_parts { AreSeriesParts sum.old.ring (parts_of b.now) }
+    requires permitted { r ≤ 4095 }
+    requires a_parts { AreSeriesParts sum.old.ring a.now }
+    requires b_parts { AreSeriesParts sum.old.ring b.now }
     ensures { OnOk result (Changes sum.old.ring sum.old sum.new (sum_to r (λ s. product
-        (polynomial_in sum.old.ring (part_in (parts_of a.now) s).map)
-        (polynomial_in sum.old.ring (part_in (parts_of b.now) (r - s)).map)))) }
+        (polynomial_in sum.old.ring (part_in a.now s).map)
+        (polynomial_in sum.old.ring (part_in b.now (r - s)).map)))) }
 {
-    for s in 0..r + 1 {
-        add_product(sum, &a[s], &b[r - s])?;
+    if a.nonzero() < b.nonzero() {
+        return add_products(sum, b, a, r);
     }
-    Ok(())
+    add_products(sum, a, b, r)
 }
 
 /// The sum of each number times the part of degree r of its node. Where it is that part itself, its
@@ -116,14 +144,18 @@ fn combination_part(
         (λ j. part_known ring (known_in nodes.now) j r) of.now) (arc_value p)) }
 {
     if let [(c, id)] = of {
-        let part = &nodes[id.index as usize].known[r as usize];
+        let part = nodes[id.index as usize].known.part(r as usize);
         if *c == 1 || part.is_zero() {
             return Ok(Arc::try_clone(part)?);
         }
     }
     let mut sum = Accumulator::new(alloc, ring, r);
     for (c, id) in of {
-        add_multiple(&mut sum, &nodes[id.index as usize].known[r as usize], *c)?;
+        add_multiple(
+            &mut sum,
+            nodes[id.index as usize].known.part(r as usize),
+            *c,
+        )?;
     }
     Ok(Arc::new(alloc, sum.finish()?)?)
 }
@@ -176,7 +208,7 @@ pub fn next_part(
         Form::Quotient(a, b) => {
             let a = &nodes[a.index as usize].known;
             let b = &nodes[b.index as usize].known;
-            quotient_next(alloc, ring, a, b, &node.known)?
+            quotient_next_of(alloc, ring, a, b, &node.known)?
         }
     };
     Ok(Arc::new(alloc, part)?)

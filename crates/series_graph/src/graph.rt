@@ -10,6 +10,7 @@ use residue::NoInverse;
 use std::alloc::Global;
 use std::marker::Model;
 use std::sync::Arc;
+use units::KnownParts;
 
 /// The greatest number of nodes.
 const MOST_NODES: usize = 65536;
@@ -205,7 +206,7 @@ impl Graph {
         ensures part { IsKnownPart self.now.ring self.now.formulas (place_of id) r (arc_value result.now) }
         ensures meaning { (D : ℕ) → ExactlyOne (Means (series self.now.ring) D self.now.formulas (place_of id)) }
     {
-        &self.nodes[id.index as usize].known[r as usize]
+        self.nodes[id.index as usize].known.part(r as usize)
     }
 
     /// Refuses where the graph is full.
@@ -231,7 +232,7 @@ impl Graph {
         self.nodes.push(Node {
             form,
             constant,
-            known: Vec::new(self.alloc),
+            known: KnownParts::new(self.alloc),
         })?;
         Ok(NodeId { index })
     }

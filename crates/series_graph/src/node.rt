@@ -1,6 +1,5 @@
 //! Nodes, and how they are named.
-use parts::Part;
-use std::sync::Arc;
+use units::KnownParts;
 
 /// The name of a node in its graph.
 #[derive(Clone, Copy, Debug, PartialEq, Eq)]
@@ -29,6 +28,6 @@ pub struct Node {
     pub form: Form,
     /// The constant term of what it means.
     pub constant: u64,
-    /// The parts that are known, from degree 0 on.
-    pub known: Vec<Arc<Part>>,
+    /// The parts that are known.
+    pub known: KnownParts,
 }

@@ -54,3 +54,27 @@ first_one ring a b n row seen new x p before same new_is is degree part first =
       first = subst (AreQuotientParts ring a b) (sym (parts_pushed row x p is))
           (subst (λ (xs : List (Arc PartValue Global)). AreQuotientParts ring a b (parts_of xs ++ p ∷ [])) same first);
     })
+
+-- n parts of a quotient that are known
+pub record AreKnownFirst (ring : Ring) (a b : Poly (series ring)) (n : ℕ) (own : List PartValue) : Type 0 where
+  pub count : length own ≡ n
+  pub parts : AreSeriesParts ring own
+  pub first : AreQuotientParts ring a b own
+
+pub known_first_none : (ring : Ring) (a b : Poly (series ring)) (own : List PartValue) → own ≡ []
+    → AreKnownFirst ring a b 0 own
+known_first_none ring a b own none = subst (AreKnownFirst ring a b 0) (sym none) (record {
+  count = refl;
+  parts = λ r lt. absurd (omega arith);
+  first = λ D is. absurd (omega arith);
+})
+
+pub known_first_one : (ring : Ring) (a b : Poly (series ring)) (n : ℕ) (own new : List PartValue) (p q : PartValue)
+    → AreKnownFirst ring a b n own → new ≡ own ++ q ∷ [] → q ≡ p → p.degree ≡ length own → IsPartOf ring p
+    → AreQuotientParts ring a b (own ++ p ∷ []) → AreKnownFirst ring a b (n + 1) new
+known_first_one ring a b n own new p q before new_is same degree part first =
+    subst (AreKnownFirst ring a b (n + 1)) (sym (new_is ∙ ap (λ (t : PartValue). own ++ t ∷ []) same)) (record {
+      count = length_push own p ∙ ap (λ k. k + 1) before.count;
+      parts = parts-more ring own p before.parts (degree, part);
+      first = first;
+    })

@@ -11,4 +11,6 @@ mod preparations;
 
 // `units`
 #[cfg(test)]
+mod known_parts;
+#[cfg(test)]
 mod quotients;

@@ -13,6 +13,10 @@ mod sessions;
 #[cfg(test)]
 mod printing;
 
+// `comparison`, of texts with sessions
+#[cfg(test)]
+mod comparing;
+
 // `printer`, of texts
 #[cfg(test)]
 mod reading;

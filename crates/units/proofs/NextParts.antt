@@ -1,36 +1,30 @@
 -- The next part of a quotient, by its formula.
-use Rattle.std.proofs.Common.{◌≡◌, ℕ, zero, suc, ◌+◌, ◌-◌, ◌*◌, ◌%◌, ◌<◌, ◌≤◌, inl, inr, List, [], ◌∷◌, ◌++◌, length}
-use Rattle.std.proofs.Common.{get_or, refl, sym, ◌∙◌, ap, subst, arith, add-one}
+use Rattle.std.proofs.Common.{◌≡◌, ℕ, suc, ◌+◌, ◌-◌, ◌<◌, ◌≤◌, inl, inr, List, [], ◌∷◌, ◌++◌, length}
+use Rattle.std.proofs.Common.{sym, ◌∙◌, ap, subst, arith, add-one}
 use Rattle.std.specs.FinMap.{empty}
 use Rattle.std.proofs.lemmas.Bool.{cases_lt}
 use Rattle.std.proofs.lemmas.List.{get_or_append_left, length_push}
 use Rattle.std.proofs.Math.Seq.{get_or-append_seam}
-use Rattle.ps_model.specs.Keys.{key_compare}
-use Rattle.ps_model.specs.FiniteMaps.{scale_map}
-use Rattle.ps_model.specs.Notation.{zero as nought, sum, scaled, product, negative, difference, truncated}
-use Rattle.ps_model.specs.Notation.{homogeneous_part, sum_to, sum_between, monomial}
+use Rattle.ps_model.specs.Notation.{sum, scaled, product, negative, difference}
+use Rattle.ps_model.specs.Notation.{homogeneous_part, sum_between, monomial}
 use Rattle.ps_model.specs.Polynomial.{Polynomial, difference as difference_of, sum as sum_of, negative as negative_of}
-use Rattle.ps_model.specs.Polynomial.{scaled as scaled_of, sum_between as between, zero as zero_of}
-use Rattle.ps_model.specs.Prepared.{IsQuotient}
+use Rattle.ps_model.specs.Polynomial.{sum_between as between, zero as zero_of}
 use Rattle.ps_model.specs.Ring.{Ring as AnyRing}
 use Rattle.ps_model.specs.SeriesRing.{ring as ring_of, Poly}
-use Rattle.ps_model.proofs.Images.{scaled_one}
-use Rattle.ps_model.proofs.Recurrences.{product-constant, scaled-scaled, scaled-unit}
+use Rattle.ps_model.proofs.Recurrences.{product-constant}
 use Rattle.ps_model.proofs.RingLaws.{sum-comm, sum-assoc, sum-zero, zero-sum, negative-sum, scaled-sum}
 use Rattle.ps_model.proofs.SlicesShifted.{scaled-nothing}
-use Rattle.ps_model.proofs.SumsBetween.{sum_between-suc, sum_between-none, sum_between-same, sum_to-between}
+use Rattle.ps_model.proofs.SumsBetween.{sum_between-suc, sum_between-same, sum_to-between}
 use Rattle.ps_model.proofs.Truncations.{homogeneous_part-product, homogeneous_part-truncated, same_truncation}
 use Rattle.ps_model.proofs.Truncations.{sum_to-same}
-use Rattle.parts.specs.AccumulatorValue.{AccumulatorValue, after_multiple}
+use Rattle.parts.specs.AccumulatorValue.{AccumulatorValue}
 use Rattle.parts.specs.PartValue.{PartValue, IsPartOf}
-use Rattle.parts.specs.Rings.{modulus_of}
 use Rattle.parts.specs.RowsOfParts.{nothing, part_in}
 use Rattle.parts.specs.Series.{series, polynomial_in, constant_of}
 use Rattle.parts.specs.declared.rings.Ring.{Ring}
-use Rattle.parts.proofs.Accumulated.{scaled-is}
-use Rattle.parts.proofs.Polynomials.{modulus_is, polynomial_in-empty}
+use Rattle.parts.proofs.Polynomials.{polynomial_in-empty}
 use Rattle.units.specs.SeriesParts.{IsPartAt, AreSeriesParts, series_of, AreQuotientParts, Changes}
-use Rattle.units.proofs.Added.{changes-multiple}
+use Rattle.units.proofs.Crossed.{crossed, crossed-zeros}
 use Rattle.units.proofs.Parts.{series_part, series_within, parts-more}
 use Rattle.units.proofs.Constants.{constant_part}
 
@@ -56,11 +50,7 @@ module _ (R : AnyRing) where
       ∙ ap (λ t. difference_of R p t) (sym (sum_between-suc R 0 b f (omega arith))
       ∙ ap (λ n. between R 0 n f) (sym (add-one b)))
 
--- what is subtracted: the products of the earlier parts and those of the divisor
-abbrev pub crossed : (ring : Ring) (own b : List PartValue) → ℕ → ℕ → Poly (series ring)
-crossed ring own b r s = product (polynomial_in ring (part_in own s).map) (polynomial_in ring (part_in b (r - s)).map)
-
--- the sum when those below s are subtracted
+-- the sum when the products own(i) * b(r-i) of i < s are subtracted
 pub record IsRest (ring : Ring) (numerator : PartValue) (own b : List PartValue) (r s : ℕ) (acc : AccumulatorValue)
     : Type 0 where
   pub ring_is : acc.ring ≡ ring
@@ -70,19 +60,19 @@ pub record IsRest (ring : Ring) (numerator : PartValue) (own b : List PartValue)
 
 module _ (ring : Ring) (numerator : PartValue) (own b : List PartValue) (r : ℕ) where
   begun : (acc : AccumulatorValue) → Changes ring (record { ring = ring; degree = r; map = empty }) acc
-      (scaled 1 (polynomial_in ring numerator.map)) → IsRest ring numerator own b r 0 acc
+      (polynomial_in ring numerator.map) → IsRest ring numerator own b r 0 acc
   begun acc added = record {
     ring_is = added.ring_is;
     degree_is = added.degree_is;
-    value = added.sum_is ∙ ap (λ t. sum t (scaled 1 (polynomial_in ring numerator.map))) (polynomial_in-empty ring)
-        ∙ zero-sum (ring_of (series ring)) _ ∙ scaled_one (ring_of (series ring)) _
+    value = added.sum_is ∙ ap (λ t. sum t (polynomial_in ring numerator.map)) (polynomial_in-empty ring)
+        ∙ zero-sum (ring_of (series ring)) _
         ∙ difference-zero (ring_of (series ring)) (polynomial_in ring numerator.map);
   }
 
   pub rest-first : (none acc : AccumulatorValue) → none ≡ record { ring = ring; degree = r; map = empty }
-      → acc ≡ after_multiple none 1 numerator → IsRest ring numerator own b r 0 acc
-  rest-first none acc none_is is = begun acc (changes-multiple (record { ring = ring; degree = r; map = empty }) acc 1
-      numerator (is ∙ ap (λ (t : AccumulatorValue). after_multiple t 1 numerator) none_is))
+      → Changes none.ring none acc (polynomial_in none.ring numerator.map) → IsRest ring numerator own b r 0 acc
+  rest-first none acc none_is added = begun acc (subst (λ (t : AccumulatorValue). Changes t.ring t acc
+      (polynomial_in t.ring numerator.map)) none_is added)
 
   pub rest-more : (s : ℕ) (acc new : AccumulatorValue) (x y : PartValue) → IsRest ring numerator own b r s acc
       → x ≡ part_in own s → y ≡ part_in b (r - s)
@@ -102,27 +92,36 @@ module _ (ring : Ring) (numerator : PartValue) (own b : List PartValue) (r : ℕ
             (λ i. product (polynomial_in ring (x_is i).map) (polynomial_in ring (y_is i).map)));
       }
 
-  -- the part that is answered
-  pub rest-part : (e : ℕ) (acc : AccumulatorValue) (x y : PartValue) → IsRest ring numerator own b r r acc
+  -- the products with zero parts of b are left out
+  pub rest-zeros : (s t : ℕ) (acc : AccumulatorValue) → IsRest ring numerator own b r s acc → s ≤ t
+      → ((i : ℕ) → s ≤ i → i < t → (part_in b (r - i)).map ≡ empty) → IsRest ring numerator own b r t acc
+  rest-zeros s t acc rest le zeros = record {
+    ring_is = rest.ring_is;
+    degree_is = rest.degree_is;
+    value = rest.value
+        ∙ ap (difference (polynomial_in ring numerator.map)) (crossed-zeros ring own b r s t le zeros);
+  }
+
+  -- the part that is answered, times the constant term that it was divided by
+  pub rest-part : (acc : AccumulatorValue) (x y : PartValue) (c : ℕ) → IsRest ring numerator own b r r acc
       → x.degree ≡ acc.degree → x.map ≡ acc.map → y.degree ≡ x.degree
-      → y.map ≡ scale_map (key_compare 8) (modulus_of ring) e x.map → IsPartOf ring y
-      → IsPartAt ring r y × (polynomial_in ring y.map
-      ≡ scaled e (difference (polynomial_in ring numerator.map) (sum_between 0 r (crossed ring own b r))))
-  rest-part e acc x y rest degree map degree_y map_y part = (
+      → scaled c (polynomial_in ring y.map) ≡ polynomial_in ring x.map → IsPartOf ring y
+      → IsPartAt ring r y × (scaled c (polynomial_in ring y.map)
+      ≡ difference (polynomial_in ring numerator.map) (sum_between 0 r (crossed ring own b r)))
+  rest-part acc x y c rest degree map degree_y back part = (
     (degree_y ∙ degree ∙ rest.degree_is, part),
-    ap (polynomial_in ring) map_y ∙ scaled-is ring e x.map
-        ∙ ap (scaled e) (ap (polynomial_in ring) map ∙ rest.value),
+    back ∙ ap (polynomial_in ring) map ∙ rest.value,
   )
 
 -- the quotient has one part more
-pub quotient-more : (ring : Ring) (own b : List PartValue) (p : PartValue) (e : ℕ) (a : Poly (series ring))
+pub quotient-more : (ring : Ring) (own b : List PartValue) (p : PartValue) (a : Poly (series ring))
     (top : Poly (series ring)) → AreSeriesParts ring own → AreSeriesParts ring b → 0 < length b
-    → IsPartAt ring (length own) p → (constant_of ring (part_in b 0) * e) % modulus_of ring ≡ 1
-    → polynomial_in ring p.map ≡ scaled e (difference top (sum_between 0 (length own) (crossed ring own b
-    (length own))))
+    → IsPartAt ring (length own) p
+    → scaled (constant_of ring (part_in b 0)) (polynomial_in ring p.map)
+    ≡ difference top (sum_between 0 (length own) (crossed ring own b (length own)))
     → homogeneous_part (length own) a ≡ top → AreQuotientParts ring a (series_of ring b) own
     → AreQuotientParts ring a (series_of ring b) (own ++ p ∷ [])
-quotient-more ring own b p e a top own_are b_are some is inverts p_is a_is before D count = record {
+quotient-more ring own b p a top own_are b_are some is p_is a_is before D count = record {
   within = series_within ring (own ++ p ∷ []) are D (omega arith);
   multiplies_back = same_truncation (ring_of (series ring)) (ring_of (series ring)).degree D _ _ (λ r le. elim
       (cases_lt r (length own)) as
@@ -169,10 +168,7 @@ quotient-more ring own b p e a top own_are b_are some is inverts p_is a_is befor
         (length own - length own) (series_of ring b))
         ≡ difference top (sum_between 0 (length own) (crossed ring own b (length own)))
     top_product = (λ i. product (last_part i) (first_part i))
-        ∙ product-constant (ring_of (series ring)) (constant_of ring (part_in b 0)) _
-        ∙ ap (scaled (constant_of ring (part_in b 0))) p_is ∙ scaled-scaled (ring_of (series ring)) _ e _
-        ∙ scaled-unit (ring_of (series ring)) _ _ (ap (λ m. (constant_of ring (part_in b 0) * e) % m) (modulus_is ring)
-        ∙ inverts)
+        ∙ product-constant (ring_of (series ring)) (constant_of ring (part_in b 0)) _ ∙ p_is
       where
         last_part : homogeneous_part (length own) (series_of ring (own ++ p ∷ [])) ≡ polynomial_in ring p.map
         last_part = series_part ring (own ++ p ∷ []) are (length own)
@@ -198,14 +194,13 @@ quotient-more ring own b p e a top own_are b_are some is inverts p_is a_is befor
         ∙ sum-difference (ring_of (series ring)) top _ ∙ sym a_is
 
 -- the same where r says how many parts there are
-pub quotient-more_at : (ring : Ring) (own b : List PartValue) (r : ℕ) (p : PartValue) (e : ℕ) (a : Poly (series ring))
+pub quotient-more_at : (ring : Ring) (own b : List PartValue) (r : ℕ) (p : PartValue) (a : Poly (series ring))
     (top : Poly (series ring)) → length own ≡ r → AreSeriesParts ring own → AreSeriesParts ring b → 0 < length b
-    → (constant_of ring (part_in b 0) * e) % modulus_of ring ≡ 1
-    → IsPartAt ring r p × (polynomial_in ring p.map ≡ scaled e (difference top (sum_between 0 r
-    (crossed ring own b r))))
+    → IsPartAt ring r p × (scaled (constant_of ring (part_in b 0)) (polynomial_in ring p.map)
+    ≡ difference top (sum_between 0 r (crossed ring own b r)))
     → homogeneous_part r a ≡ top → AreQuotientParts ring a (series_of ring b) own
     → AreQuotientParts ring a (series_of ring b) (own ++ p ∷ [])
-quotient-more_at ring own b r p e a top count own_are b_are some inverts is a_is before =
-    quotient-more ring own b p e a top own_are b_are some (subst (λ n. IsPartAt ring n p) (sym count) is.0) inverts
-    (is.1 ∙ ap (λ n. scaled e (difference top (sum_between 0 n (crossed ring own b n)))) (sym count))
+quotient-more_at ring own b r p a top count own_are b_are some is a_is before =
+    quotient-more ring own b p a top own_are b_are some (subst (λ n. IsPartAt ring n p) (sym count) is.0)
+    (is.1 ∙ ap (λ n. difference top (sum_between 0 n (crossed ring own b n))) (sym count))
     (ap (λ n. homogeneous_part n a) count ∙ a_is) before

@@ -1,23 +1,22 @@
 -- The parts of a series that is given by its parts.
-use Rattle.std.proofs.Common.{◌≡◌, ℕ, zero, suc, ◌+◌, ◌<◌, ◌≤◌, inl, inr, List, [], ◌∷◌, ◌++◌, length, get_or}
-use Rattle.std.proofs.Common.{refl, sym, ◌∙◌, ap, subst, arith, zero-add}
+use Rattle.std.proofs.Common.{◌≡◌, ℕ, zero, suc, ◌+◌, ◌<◌, ◌≤◌, inl, inr, List, [], ◌∷◌, ◌++◌, length}
+use Rattle.std.proofs.Common.{sym, ◌∙◌, ap, subst, arith, zero-add}
 use Rattle.std.proofs.lemmas.Bool.{cases_lt}
 use Rattle.std.proofs.lemmas.List.{get_or_append_left, length_push}
 use Rattle.std.proofs.Math.Seq.{get_or-append_seam}
-use Rattle.ps_model.specs.Notation.{zero as nought, sum, truncated, homogeneous_part}
+use Rattle.ps_model.specs.Notation.{zero as nought, sum, homogeneous_part}
 use Rattle.ps_model.specs.Bounds.{HasNoDegreeAbove}
-use Rattle.ps_model.specs.Polynomial.{sum as sum_of}
 use Rattle.ps_model.specs.Ring.{Ring as AnyRing}
 use Rattle.ps_model.specs.Polynomial.{Polynomial}
 use Rattle.ps_model.specs.Truncation as by_degree
-use Rattle.ps_model.specs.SeriesRing.{ring as ring_of, Poly}
+use Rattle.ps_model.specs.SeriesRing.{ring as ring_of}
 use Rattle.ps_model.proofs.Below.{truncated-below, below-nothing, homogeneous_part-other}
 use Rattle.ps_model.proofs.Degrees.{homogeneous-below}
 use Rattle.ps_model.proofs.Homogeneous.{IsHomogeneous}
 use Rattle.ps_model.proofs.RingLaws.{sum-zero, zero-sum}
 use Rattle.ps_model.proofs.SliceValues.{part-nothing, slice_degree}
 use Rattle.ps_model.proofs.Truncations.{homogeneous_part-sum, truncated-sum}
-use Rattle.parts.specs.PartValue.{PartValue, IsPartOf}
+use Rattle.parts.specs.PartValue.{PartValue}
 use Rattle.parts.specs.RowsOfParts.{nothing, part_in}
 use Rattle.parts.specs.Series.{series, polynomial_in}
 use Rattle.parts.specs.declared.rings.Ring.{Ring}

@@ -1,1 +1,2 @@
 pub mod SeriesParts
+pub mod Links

@@ -1,6 +1,8 @@
 //! Inverses and quotients of power series, part by part.
 #![tactic(auto)]
 
+mod known_parts;
 mod quotients;
 
-pub use quotients::{inverse_next, quotient_next};
+pub use known_parts::KnownParts;
+pub use quotients::{inverse_next, quotient_next, quotient_next_of};

@@ -3,10 +3,11 @@
 //! g = a / b is the series with g * b = a. Here f(r) is the part of degree r of a series f. The
 //! parts of degree r of both sides give
 //!
-//! g(r) = b(0)^-1 * (a(r) - sum over s < r of g(s) * b(r-s))
+//! g(r) = b(0)^-1 * (a(r) - sum over 0 < s <= r of g(r-s) * b(s))
 ghost use Rattle.std.specs.Prelude.{◌≡◌, ◌+◌, ◌*◌, ◌%◌, ◌<◌, ◌≤◌, ◌++◌, ◌∷◌, [], length, IfOk, OnOk};
+ghost use Rattle.std.specs.Prelude.{slice_index_or};
 ghost use Rattle.ps_model.specs.Bounds.{IsUnit};
-ghost use Rattle.ps_model.specs.Notation.{one, negative, product, homogeneous_part};
+ghost use Rattle.ps_model.specs.Notation.{one, negative, product, scaled as scaled_by, homogeneous_part};
 ghost use Rattle.ps_model.specs.SeriesRing.{Poly};
 ghost use Rattle.parts.specs.Rings.{modulus_of};
 ghost use Rattle.parts.specs.PartValue.{IsPartOf};
@@ -14,11 +15,26 @@ ghost use Rattle.parts.specs.RowsOfParts.{parts_of, part_in};
 ghost use Rattle.parts.specs.Series.{series, polynomial_in, constant_of};
 ghost use Rattle.units.specs.SeriesParts.{IsPartAt, AreSeriesParts, series_of, AreQuotientParts};
 ghost use Rattle.units.specs.SeriesParts.{Changes};
+ghost use Rattle.units.specs.Links.{AreLinks};
 
+use crate::known_parts::KnownParts;
 use parts::{Accumulator, Monomial, Part, Ring, scaled};
 use ps_model::OutOfMemory;
 use std::alloc::Global;
 use std::sync::Arc;
+
+/// Adds f to a sum. A zero part adds nothing.
+fn add_part(sum: &mut Accumulator, f: &Part) -> Result<(), OutOfMemory>
+    requires degrees { f.now.degree ≡ sum.old.degree }
+    requires part { IsPartOf sum.old.ring f.now }
+    ensures { OnOk result (Changes sum.old.ring sum.old sum.new (polynomial_in sum.old.ring f.now.map)) }
+{
+    if f.is_zero() {
+        return Ok(());
+    }
+    sum.add_scaled(f, 1)?;
+    Ok(())
+}
 
 /// Subtracts f * g from a sum. A zero part takes no product.
 fn subtract_product(sum: &mut Accumulator, f: &Part, g: &Part) -> Result<(), OutOfMemory>
@@ -49,12 +65,43 @@ fn constant_inverse(ring: Ring, part: &Part) -> u64
     }
 }
 
-/// g(r) for r = `own.len()`, where `numerator` is a(r).
+/// A part divided by the constant term of a series whose part of degree 0 is `first`.
+fn over_constant(alloc: Global, ring: Ring, part: Part, first: &Part) -> Result<Part, OutOfMemory>
+    requires unit { IsUnit (modulus_of ring) (constant_of ring first.now) }
+    requires part { IsPartOf ring part }
+    ensures degree { IfOk result (λ p. p.degree ≡ part.degree) }
+    ensures part { IfOk result (IsPartOf ring) }
+    ensures back { IfOk result (λ p. scaled_by (constant_of ring first.now) (polynomial_in ring p.map)
+        ≡ polynomial_in ring part.map) }
+{
+    if part.is_zero() {
+        return Ok(part);
+    }
+    let inverse = constant_inverse(ring, first);
+    if inverse == 1 {
+        return Ok(part);
+    }
+    Ok(scaled(alloc, ring, &part, inverse)?)
+}
+
+/// Where the parts below degree s begin that need not be looked at, by the links; where there is no
+/// link each one is.
+fn below(links: &[u32], s: usize) -> usize
+    ensures { result ≡ slice_index_or links.now s s }
+{
+    match links.get(s) {
+        Some(end) => *end as usize,
+        None => s,
+    }
+}
+
+/// g(r) for r = `own.len()`, where `numerator` is a(r). By the links it passes over zero parts of b.
 fn next_of(
     alloc: Global,
     ring: Ring,
     numerator: &Part,
     b: &[Arc<Part>],
+    links: &[u32],
     own: &[Arc<Part>],
 ) -> Result<Part, OutOfMemory>
     requires permitted { length own.now ≤ 4095 }
@@ -62,6 +109,7 @@ fn next_of(
     requires enough { length own.now < length b.now }
     requires numerator { IsPartAt ring (length own.now) numerator.now }
     requires b_parts { AreSeriesParts ring (parts_of b.now) }
+    requires links { AreLinks (parts_of b.now) links.now }
     requires own_parts { AreSeriesParts ring (parts_of own.now) }
     ensures part { IfOk result (IsPartAt ring (length own.now)) }
     ensures next { IfOk result (λ p. (a : Poly (series ring)) →
@@ -71,13 +119,15 @@ fn next_of(
 {
     let r = own.len();
     let mut sum = Accumulator::new(alloc, ring, r as u32);
-    sum.add_scaled(numerator, 1)?;
-    for s in 0..r {
-        subtract_product(&mut sum, &own[s], &b[r - s])?;
+    add_part(&mut sum, numerator)?;
+    // the products g(r-s) * b(s) of s >= end are subtracted
+    let mut end = r + 1;
+    while end > 1 {
+        let s = end - 1;
+        subtract_product(&mut sum, &own[r - s], &b[s])?;
+        end = below(links, s);
     }
-    let difference = sum.finish()?;
-    let inverse = constant_inverse(ring, &b[0]);
-    Ok(scaled(alloc, ring, &difference, inverse)?)
+    Ok(over_constant(alloc, ring, sum.finish()?, &b[0])?)
 }
 
 /// The part of degree r of 1.
@@ -114,7 +164,7 @@ pub fn inverse_next(
         (series_of ring (parts_of b.now)) (parts_of own.now ++ p ∷ [])) }
 {
     let numerator = one_part(alloc, ring, own.len() as u32)?;
-    Ok(next_of(alloc, ring, &numerator, b, own)?)
+    Ok(next_of(alloc, ring, &numerator, b, &[], own)?)
 }
 
 /// The next part of a / b: that of degree `own.len()`, where `own` has the parts before. `a[r]`,
@@ -142,5 +192,33 @@ pub fn quotient_next(
     ensures first { IfOk result (λ p. AreQuotientParts ring (series_of ring (parts_of a.now))
         (series_of ring (parts_of b.now)) (parts_of own.now ++ p ∷ [])) }
 {
-    Ok(next_of(alloc, ring, &a[own.len()], b, own)?)
+    Ok(next_of(alloc, ring, &a[own.len()], b, &[], own)?)
+}
+
+/// The next part of a / b, as `quotient_next` computes it.
+///
+/// It takes at most as many products as b has parts of the degrees from 1 to `own.len()` that aren't
+/// zero, and looks at no other parts.
+pub fn quotient_next_of(
+    alloc: Global,
+    ring: Ring,
+    a: &KnownParts,
+    b: &KnownParts,
+    own: &KnownParts,
+) -> Result<Part, OutOfMemory>
+    requires permitted { length own.now ≤ 4095 }
+    requires unit { IsUnit (modulus_of ring) (constant_of ring (part_in b.now 0)) }
+    requires a_enough { length own.now < length a.now }
+    requires b_enough { length own.now < length b.now }
+    requires a_parts { AreSeriesParts ring a.now }
+    requires b_parts { AreSeriesParts ring b.now }
+    requires own_parts { AreSeriesParts ring own.now }
+    requires own_first { AreQuotientParts ring (series_of ring a.now) (series_of ring b.now) own.now }
+    ensures degree { IfOk result (λ p. p.degree ≡ length own.now) }
+    ensures part { IfOk result (IsPartOf ring) }
+    ensures first { IfOk result (λ p. AreQuotientParts ring (series_of ring a.now)
+        (series_of ring b.now) (own.now ++ p ∷ [])) }
+{
+    let numerator = a.part(own.len());
+    Ok(next_of(alloc, ring, numerator, b.parts(), b.links(), own.parts())?)
 }

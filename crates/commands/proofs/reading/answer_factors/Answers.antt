@@ -3,7 +3,7 @@ use Rattle.std.proofs.lemmas.Result.{err_from_is_err_and}
 use Rattle.parts.specs.Rings.{weights_of}
 use Rattle.script.specs.Requests as request
 use Rattle.commands.specs.declared.reading.Reading.TheVariants.{Factors}
-use Rattle.commands.specs.declared.words.Command.TheVariants.{Factor}
+use Rattle.commands.specs.declared.words.ScriptCommand.TheVariants.{Factor}
 use Rattle.commands.specs.Answering.{FactoringValue}
 use Rattle.commands.specs.Lines.{AnswersLine}
 use Rattle.commands.proofs.LinesDone.{factor_answered, factor_stopped, refused_line}

@@ -4,6 +4,7 @@ use Rattle.ps_model.specs.BlockText.{newline}
 use Rattle.printer.specs.Texts.{view_degree_text}
 use Rattle.printer.proofs.Pieces.{start, regroup, step, fault, last}
 use Rattle.commands.specs.Streams.{texts_up_to, view_stream_text}
+use Rattle.commands.proofs.Pieces.{held_none, wrote_all}
 use Rattle.commands.proofs.StreamSteps.{lower_known, left_from, all_left, next_left, none_left, in_pieces}
 use Rattle.commands.proofs.streams.write_stream.Goals as goal
 
@@ -25,9 +26,9 @@ returns-in_err-write_first_line g c =
     let names : List (List ℕ) = g.V.NameView.names c.args.view.now in
     let d = c.args.d in
     let texts = texts_up_to (view_degree_text names value) d in
-    fault (texts ++ end_line) _ c.in_err-write_first_line.ensures
+    wrote_all _ (fault (texts ++ end_line) _ (held_none c.in_err-write_first_line.ensures)
     (regroup (start _ _ (view_stream_text names value d)) (in_pieces (first_line d) texts (codes "end") newline))
-    c.from_residual.ensures.0
+    c.from_residual.ensures.0)
 
 pub loop-r-init : goal.loop-r-init
 loop-r-init g c =
@@ -35,7 +36,7 @@ loop-r-init g c =
     let names : List (List ℕ) = g.V.NameView.names c.args.view.now in
     let d = c.args.d in
     let text : ℕ → List ℕ = view_degree_text names value in
-    step (left_from text d 0 ++ end_line) c.in_ok-write_first_line.ensures
+    step (left_from text d 0 ++ end_line) (held_none c.in_ok-write_first_line.ensures)
     (regroup (start _ _ (view_stream_text names value d))
     (in_pieces (first_line d) (texts_up_to text d) (codes "end") newline
     ∙ ap (λ (l : List ℕ). first_line d ++ (l ++ end_line)) (all_left text d)))
@@ -51,9 +52,9 @@ returns-in_err-write_degree g c =
     let d = c.args.d in
     let r = c.loop-r.r in
     let text : ℕ → List ℕ = view_degree_text names value in
-    fault (left_from text d (r + 1) ++ end_line) _ c.in_err-write_degree.ensures
+    wrote_all _ (fault (left_from text d (r + 1) ++ end_line) _ (held_none c.in_err-write_degree.ensures)
     (regroup c.loop-r.invariant (next_piece text d r (let low = c.loop-r-test.true in omega arith)))
-    c.from_residual-in_err-write_degree.ensures.0
+    c.from_residual-in_err-write_degree.ensures.0)
 
 pub loop-r-preserved : goal.loop-r-preserved
 loop-r-preserved g c =
@@ -62,7 +63,7 @@ loop-r-preserved g c =
     let d = c.args.d in
     let r = c.loop-r.r in
     let text : ℕ → List ℕ = view_degree_text names value in
-    step (left_from text d (r + 1) ++ end_line) c.in_ok-write_degree.ensures
+    step (left_from text d (r + 1) ++ end_line) (held_none c.in_ok-write_degree.ensures)
     (regroup c.loop-r.invariant (next_piece text d r (let low = c.loop-r-test.true in omega arith)))
 
 pub returns : goal.returns
@@ -71,5 +72,5 @@ returns g c =
     let names : List (List ℕ) = g.V.NameView.names c.args.view.now in
     let d = c.args.d in
     let text : ℕ → List ℕ = view_degree_text names value in
-    last _ c.put.ensures (regroup c.loop-r.invariant (ap (λ (l : List ℕ). l ++ end_line)
-    (none_left text d c.loop-r.r (let past = c.loop-r-test.false in omega arith))))
+    wrote_all _ (last _ (held_none c.put.ensures) (regroup c.loop-r.invariant (ap (λ (l : List ℕ). l ++ end_line)
+    (none_left text d c.loop-r.r (let past = c.loop-r-test.false in omega arith)))))

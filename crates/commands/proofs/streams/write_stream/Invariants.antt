@@ -1,4 +1,4 @@
-use Rattle.std.proofs.Common.{ℕ, List, ◌++◌}
+use Rattle.std.proofs.Common.{ℕ, List, [], ◌++◌}
 use Rattle.std.specs.Prelude.{codes}
 use Rattle.ps_model.specs.BlockText.{newline}
 use Rattle.printer.specs.Texts.{view_degree_text}
@@ -13,5 +13,6 @@ invariant-loop-r g l =
     let faults = g.K.Sink.faults in
     let value = g.V.BlockView.value l.view in
     let names : List (List ℕ) = g.V.NameView.names l.view in
-    IsLeft (written l.fn.sink) (written l.sink) (faults l.fn.sink) (faults l.sink) (view_stream_text names value l.d)
+    IsLeft (written l.fn.sink) (written l.sink) (faults l.fn.sink) (faults l.sink) [] []
+    (view_stream_text names value l.d)
     (left_from (view_degree_text names value) l.d l.r ++ (codes "end" ++ newline))

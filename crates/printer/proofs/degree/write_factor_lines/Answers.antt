@@ -6,7 +6,7 @@ use Rattle.ps_model.specs.declared.job.Root.{Root}
 use Rattle.ps_model.specs.StreamText.{lines_of}
 use Rattle.parts.specs.Series.{series}
 use Rattle.printer.specs.Texts.{factor_to}
-use Rattle.printer.specs.Wrote.{Wrote}
+use Rattle.printer.specs.Buffered.{Buffered}
 use Rattle.printer.proofs.Pieces.{start, regroup, step, fault, done}
 use Rattle.printer.proofs.StreamTexts.{below, below_is, below_none, lines_left}
 use Rattle.printer.proofs.degree.write_factor_lines.Goals as goal
@@ -20,9 +20,10 @@ returns-in_err-write_power_line g c = λ root at.
     let j = c.loop-power.power in
     let f = factor_to value r i in
     let same : c.root-times.result ≡ root = same_Some c.root-times.result root (sym c.root-times.ensures ∙ at) in
-    subst (λ (x : Root). Wrote c.from_residual.result (g.K.Sink.written c.args.sink.now)
-    (g.K.Sink.written c.write_power_line.new.sink) (g.K.Sink.faults c.args.sink.now)
-    (g.K.Sink.faults c.write_power_line.new.sink) (lines_of (series value.ring) names r (i + 1) f x.times)) same
+    subst (λ (x : Root). Buffered c.from_residual.result (g.K.Sink.written c.args.sink.now)
+    (g.K.Sink.written c.write_power_line.new.sink) c.args.buffer.now c.write_power_line.new.buffer
+    (g.K.Sink.faults c.args.sink.now) (g.K.Sink.faults c.write_power_line.new.sink)
+    (lines_of (series value.ring) names r (i + 1) f x.times)) same
     (fault (below (series value.ring) names r (i + 1) f j) c.from_residual.result c.in_err-write_power_line.ensures
     (regroup c.loop-power.invariant (lines_left (series value.ring) names r (i + 1) f j)) c.from_residual.ensures.0)
 
@@ -59,7 +60,8 @@ returns-in_ok-write_power_line g c = λ root at.
     let same : c.root-times.result ≡ root = same_Some c.root-times.result root (sym c.root-times.ensures ∙ at) in
     let left = step (below (series value.ring) names r (i + 1) f j) c.in_ok-write_power_line.ensures
     (regroup c.loop-power.invariant (lines_left (series value.ring) names r (i + 1) f j)) in
-    subst (λ (x : Root). Wrote {A = Unit {0}} {E = WriteFault} (Ok tt) (g.K.Sink.written c.args.sink.now)
-    (g.K.Sink.written c.write_power_line.new.sink) (g.K.Sink.faults c.args.sink.now)
-    (g.K.Sink.faults c.write_power_line.new.sink) (lines_of (series value.ring) names r (i + 1) f x.times)) same
+    subst (λ (x : Root). Buffered {A = Unit {0}} {E = WriteFault} (Ok tt) (g.K.Sink.written c.args.sink.now)
+    (g.K.Sink.written c.write_power_line.new.sink) c.args.buffer.now c.write_power_line.new.buffer
+    (g.K.Sink.faults c.args.sink.now) (g.K.Sink.faults c.write_power_line.new.sink)
+    (lines_of (series value.ring) names r (i + 1) f x.times)) same
     (done tt (regroup left (below_none (series value.ring) names r (i + 1) f j (omega arith))))

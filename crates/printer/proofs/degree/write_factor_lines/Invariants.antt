@@ -12,4 +12,5 @@ invariant-loop-power g l =
     let value = g.V.BlockView.value l.view in
     let names : List (List ℕ) = g.V.NameView.names l.view in
     let lines = lines_of (series value.ring) names l.r (l.i + 1) (factor_to value l.r l.i) in
-    IsLeft (written l.fn.sink) (written l.sink) (faults l.fn.sink) (faults l.sink) (lines l.times) (lines l.power)
+    IsLeft (written l.fn.sink) (written l.sink) (faults l.fn.sink) (faults l.sink)
+    l.fn.buffer l.buffer (lines l.times) (lines l.power)

@@ -37,7 +37,8 @@ one_more : (g : Over) (c : Joined-not-is_empty g)
     → let names : List (List ℕ) = take c.args.variables.now.count (g.N.NameView.names c.args.variables.now.names.now) in
     IsRowFrom names (g.C.Coefficients.part_of c.args.coefficients.now c.args.power) c.args.d
     (g.K.Sink.written c.args.sink.now) (g.K.Sink.written c.write_terms.new.sink) (g.K.Sink.faults c.args.sink.now)
-    (g.K.Sink.faults c.write_terms.new.sink) (c.loop-r.r + 1) c.if-not-is_empty.some
+    (g.K.Sink.faults c.write_terms.new.sink) c.args.buffer.now
+    c.write_terms.new.buffer (c.loop-r.r + 1) c.if-not-is_empty.some
 one_more g c =
     let names : List (List ℕ) = take c.args.variables.now.count (g.N.NameView.names c.args.variables.now.names.now) in
     let part = g.C.Coefficients.part_of c.args.coefficients.now c.args.power in

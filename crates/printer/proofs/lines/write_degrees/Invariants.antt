@@ -8,4 +8,4 @@ invariant-loop-r g l =
     let faults = g.K.Sink.faults in
     let names : List (List ℕ) = take l.variables.count (g.N.NameView.names l.variables.names.now) in
     IsRowFrom names (g.C.Coefficients.part_of l.coefficients l.power) l.d (written l.fn.sink) (written l.sink)
-    (faults l.fn.sink) (faults l.sink) l.r l.some
+    (faults l.fn.sink) (faults l.sink) l.fn.buffer l.buffer l.r l.some

@@ -9,4 +9,5 @@ invariant-loop-power g l =
     let faults = g.K.Sink.faults in
     let names : List (List ℕ) = take l.variables.count (g.N.NameView.names l.variables.names.now) in
     let lines = coefficient_lines names l.d (g.C.Coefficients.part_of l.coefficients) in
-    IsLeft (written l.fn.sink) (written l.sink) (faults l.fn.sink) (faults l.sink) (lines l.top) (lines l.power)
+    IsLeft (written l.fn.sink) (written l.sink) (faults l.fn.sink) (faults l.sink)
+    l.fn.buffer l.buffer (lines l.top) (lines l.power)

@@ -10,5 +10,6 @@ invariant-loop-term g l =
     let faults = g.K.Sink.faults in
     let names : List (List ℕ) = take l.variables.count (g.N.NameView.names l.variables.names.now) in
     let texts = texts_of names (map entry_of l.terms) in
-    IsLeft (written l.fn.sink) (written l.sink) (faults l.fn.sink) (faults l.sink) (listed l.some texts)
+    IsLeft (written l.fn.sink) (written l.sink) (faults l.fn.sink) (faults l.sink)
+    l.fn.buffer l.buffer (listed l.some texts)
     (listed l.behind (drop l.term-index texts))

@@ -20,17 +20,18 @@ use Rattle.series_graph.proofs.formulas.combination_part.Goals.{
 pub returns-then-c-eq1 : goal.returns-then-c-eq1
 returns-then-c-eq1 c =
     let some : 0 < length c.args.of.now = omega arith in
+    let there = c.requires.known 0 (0, record { index = 0 }) some in
     let read = node_part c.args.ring c.args.nodes.now c.requires.graph
-    (place_of (get_or c.args.of.now 0 (0, record { index = 0 })).1)
-    c.args.r c.index-nodes-id.result c.index-part.result.now (arc_value c.index-part.result.now)
-    (c.requires.known 0 (0, record { index = 0 }) some) c.index-part.ensures refl in
+    (place_of (get_or c.args.of.now 0 (0, record { index = 0 })).1) c.index-nodes-id.result
+    (known_within c.args.nodes.now _ c.args.r there) c.args.r
+    (arc_value c.part-part.result.now) there c.part-part.ensures in
     subst (λ q. IsPartWith c.args.ring c.args.r q (arc_value c.in_ok-try_clone.field-0))
     (multiples_are c.args.ring (known_in c.args.nodes.now) c.args.r c.args.of.now)
     (subst (λ (p : PartValue). IsPartWith c.args.ring c.args.r
     (multiples_known c.args.ring (known_in c.args.nodes.now) c.args.r c.args.of.now) p)
     (sym c.in_ok-try_clone.ensures)
     (multiples-one c.args.ring (known_in c.args.nodes.now) c.args.r c.args.of.now (0, record { index = 0 })
-    (arc_value c.index-part.result.now) (omega arith) read.0 read.1
+    (arc_value c.part-part.result.now) (omega arith) read.0 read.1
     (elim c.then-c-eq1.branch [
       | then-c-eq1-via-then-c-eq1 w ↦ inl w.if-c-eq1.true
       | then-c-eq1-via-else-c-eq1+then-is_zero w ↦ inr (ap (λ (p : PartValue). p.map) (sym w.deref.ensures)
@@ -48,11 +49,12 @@ bounds-nodes-id-in-loop-c c = known_within c.args.nodes.now _ c.args.r
 term : (c : After-deref-in-loop-c) → (c.deref-in-loop-c.result.now ≡ part_in (get_or (known_in c.args.nodes.now)
     (place_of (get_or c.args.of.now c.loop-c.c-index (0, record { index = 0 })).1) []) c.args.r)
     × IsPartAt c.args.ring c.args.r c.deref-in-loop-c.result.now
-term c = node_part c.args.ring c.args.nodes.now c.requires.graph
-    (place_of (get_or c.args.of.now c.loop-c.c-index (0, record { index = 0 })).1) c.args.r
-    c.index-nodes-id-in-loop-c.result c.index.result.now c.deref-in-loop-c.result.now
-    (c.requires.known c.loop-c.c-index (0, record { index = 0 }) c.loop-c-test.true) c.index.ensures
-    c.deref-in-loop-c.ensures
+term c =
+    let there = c.requires.known c.loop-c.c-index (0, record { index = 0 }) c.loop-c-test.true in
+    node_part c.args.ring c.args.nodes.now c.requires.graph
+    (place_of (get_or c.args.of.now c.loop-c.c-index (0, record { index = 0 })).1) c.index-nodes-id-in-loop-c.result
+    (known_within c.args.nodes.now _ c.args.r there) c.args.r
+    c.deref-in-loop-c.result.now there (c.deref-in-loop-c.ensures ∙ c.part.ensures)
 
 pub add_multiple-requires-clause-degrees : goal.add_multiple-requires-clause-degrees
 add_multiple-requires-clause-degrees c =

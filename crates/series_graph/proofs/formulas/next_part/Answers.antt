@@ -2,7 +2,8 @@ use Rattle.std.proofs.Common.{sym, subst}
 use Rattle.std.specs.Arc.{arc_value}
 use Rattle.std.proofs.lemmas.Result.{IfOk-weaker}
 use Rattle.series_graph.proofs.NextRead.{IsNextPart, next_is_number, next_is_variable, next_is_combination, next_is_dot}
-use Rattle.series_graph.proofs.NextRead.{dot_known, next_is_quotient, quotient_unit, quotient_parts, quotient_own}
+use Rattle.series_graph.proofs.NextRead.{dot_known, next_is_quotient, quotient_enough, quotient_unit, quotient_parts}
+use Rattle.series_graph.proofs.NextRead.{quotient_own}
 use Rattle.series_graph.proofs.formulas.next_part.Goals as goal
 use Rattle.series_graph.proofs.formulas.next_part.Goals.{
   in-Number+in_ok-part-in-Number,
@@ -23,40 +24,40 @@ dot_part-requires-clause-known c = dot_known c.args.ring c.args.nodes.now c.requ
     c.index-nodes-i.result c.requires.node c.index-nodes-i.is c.requires.named c.len-r.result c.len-r.ensures
     c.in-Dot.of c.deref-in-Dot.result.now c.in-Dot.is c.deref-in-Dot.ensures.value
 
-pub quotient_next-requires-clause-unit : goal.quotient_next-requires-clause-unit
-quotient_next-requires-clause-unit c = quotient_unit c.args.ring c.args.nodes.now c.requires.graph c.args.i
+pub quotient_next_of-requires-clause-a_enough : goal.quotient_next_of-requires-clause-a_enough
+quotient_next_of-requires-clause-a_enough c = (quotient_enough c.args.ring c.args.nodes.now c.requires.graph c.args.i
     c.index-nodes-i.result c.requires.node c.index-nodes-i.is c.requires.named c.in-Quotient.a c.in-Quotient.b
-    c.in-Quotient.is c.index-nodes-a.result c.index-nodes-b.result c.deref-in-Quotient.result.now
-    c.deref-in-Quotient-2.result.now c.deref-in-Quotient-3.result.now c.deref-in-Quotient.ensures.value
-    c.deref-in-Quotient-2.ensures.value c.deref-in-Quotient-3.ensures.value
+    c.in-Quotient.is c.index-nodes-a.result c.index-nodes-b.result).0
 
-pub quotient_next-requires-clause-a_parts : goal.quotient_next-requires-clause-a_parts
-quotient_next-requires-clause-a_parts c = (quotient_parts c.args.ring c.args.nodes.now c.requires.graph c.args.i
+pub quotient_next_of-requires-clause-b_enough : goal.quotient_next_of-requires-clause-b_enough
+quotient_next_of-requires-clause-b_enough c = (quotient_enough c.args.ring c.args.nodes.now c.requires.graph c.args.i
     c.index-nodes-i.result c.requires.node c.index-nodes-i.is c.requires.named c.in-Quotient.a c.in-Quotient.b
-    c.in-Quotient.is c.index-nodes-a.result c.index-nodes-b.result c.deref-in-Quotient.result.now
-    c.deref-in-Quotient-2.result.now c.deref-in-Quotient-3.result.now c.deref-in-Quotient.ensures.value
-    c.deref-in-Quotient-2.ensures.value c.deref-in-Quotient-3.ensures.value).0
+    c.in-Quotient.is c.index-nodes-a.result c.index-nodes-b.result).1
 
-pub quotient_next-requires-clause-b_parts : goal.quotient_next-requires-clause-b_parts
-quotient_next-requires-clause-b_parts c = (quotient_parts c.args.ring c.args.nodes.now c.requires.graph c.args.i
+pub quotient_next_of-requires-clause-unit : goal.quotient_next_of-requires-clause-unit
+quotient_next_of-requires-clause-unit c = quotient_unit c.args.ring c.args.nodes.now c.requires.graph c.args.i
     c.index-nodes-i.result c.requires.node c.index-nodes-i.is c.requires.named c.in-Quotient.a c.in-Quotient.b
-    c.in-Quotient.is c.index-nodes-a.result c.index-nodes-b.result c.deref-in-Quotient.result.now
-    c.deref-in-Quotient-2.result.now c.deref-in-Quotient-3.result.now c.deref-in-Quotient.ensures.value
-    c.deref-in-Quotient-2.ensures.value c.deref-in-Quotient-3.ensures.value).1
+    c.in-Quotient.is c.index-nodes-a.result c.index-nodes-b.result
 
-pub quotient_next-requires-clause-own_parts : goal.quotient_next-requires-clause-own_parts
-quotient_next-requires-clause-own_parts c = (quotient_parts c.args.ring c.args.nodes.now c.requires.graph c.args.i
+pub quotient_next_of-requires-clause-a_parts : goal.quotient_next_of-requires-clause-a_parts
+quotient_next_of-requires-clause-a_parts c = (quotient_parts c.args.ring c.args.nodes.now c.requires.graph c.args.i
     c.index-nodes-i.result c.requires.node c.index-nodes-i.is c.requires.named c.in-Quotient.a c.in-Quotient.b
-    c.in-Quotient.is c.index-nodes-a.result c.index-nodes-b.result c.deref-in-Quotient.result.now
-    c.deref-in-Quotient-2.result.now c.deref-in-Quotient-3.result.now c.deref-in-Quotient.ensures.value
-    c.deref-in-Quotient-2.ensures.value c.deref-in-Quotient-3.ensures.value).2
+    c.in-Quotient.is c.index-nodes-a.result c.index-nodes-b.result).0
 
-pub quotient_next-requires-clause-own_first : goal.quotient_next-requires-clause-own_first
-quotient_next-requires-clause-own_first c = quotient_own c.args.ring c.args.nodes.now c.requires.graph c.args.i
+pub quotient_next_of-requires-clause-b_parts : goal.quotient_next_of-requires-clause-b_parts
+quotient_next_of-requires-clause-b_parts c = (quotient_parts c.args.ring c.args.nodes.now c.requires.graph c.args.i
     c.index-nodes-i.result c.requires.node c.index-nodes-i.is c.requires.named c.in-Quotient.a c.in-Quotient.b
-    c.in-Quotient.is c.index-nodes-a.result c.index-nodes-b.result c.deref-in-Quotient.result.now
-    c.deref-in-Quotient-2.result.now c.deref-in-Quotient-3.result.now c.deref-in-Quotient.ensures.value
-    c.deref-in-Quotient-2.ensures.value c.deref-in-Quotient-3.ensures.value
+    c.in-Quotient.is c.index-nodes-a.result c.index-nodes-b.result).1
+
+pub quotient_next_of-requires-clause-own_parts : goal.quotient_next_of-requires-clause-own_parts
+quotient_next_of-requires-clause-own_parts c = (quotient_parts c.args.ring c.args.nodes.now c.requires.graph c.args.i
+    c.index-nodes-i.result c.requires.node c.index-nodes-i.is c.requires.named c.in-Quotient.a c.in-Quotient.b
+    c.in-Quotient.is c.index-nodes-a.result c.index-nodes-b.result).2
+
+pub quotient_next_of-requires-clause-own_first : goal.quotient_next_of-requires-clause-own_first
+quotient_next_of-requires-clause-own_first c = quotient_own c.args.ring c.args.nodes.now c.requires.graph c.args.i
+    c.index-nodes-i.result c.requires.node c.index-nodes-i.is c.requires.named c.in-Quotient.a c.in-Quotient.b
+    c.in-Quotient.is c.index-nodes-a.result c.index-nodes-b.result
 
 pub returns : goal.returns
 returns c = subst (IsNextPart c.args.ring c.args.nodes.now c.requires.graph c.args.i c.index-nodes-i.result
@@ -83,9 +84,7 @@ returns c = subst (IsNextPart c.args.ring c.args.nodes.now c.requires.graph c.ar
           c.args.i c.index-nodes-i.result c.requires.node c.index-nodes-i.is c.requires.named) (sym w.part-is)
           (next_is_quotient c.args.ring c.args.nodes.now c.requires.graph c.args.i c.index-nodes-i.result
           c.requires.node c.index-nodes-i.is c.requires.named w.in-Quotient.a w.in-Quotient.b w.in-Quotient.is
-          w.index-nodes-a.result w.index-nodes-b.result w.deref-in-Quotient.result.now
-          w.deref-in-Quotient-2.result.now w.deref-in-Quotient-3.result.now w.deref-in-Quotient.ensures.value
-          w.deref-in-Quotient-2.ensures.value w.deref-in-Quotient-3.ensures.value w.in_ok-part-in-Quotient.part
+          w.index-nodes-a.result w.index-nodes-b.result w.in_ok-part-in-Quotient.part
           w.in_ok-part-in-Quotient.ensures.degree w.in_ok-part-in-Quotient.ensures.part
           w.in_ok-part-in-Quotient.ensures.first)
     ])

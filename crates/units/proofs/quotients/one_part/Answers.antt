@@ -1,4 +1,4 @@
-use Rattle.std.proofs.Common.{◌≡◌, sym, ◌∙◌, ap, subst}
+use Rattle.std.proofs.Common.{◌∙◌, ap}
 use Rattle.ps_model.specs.Notation.{homogeneous_part, one}
 use Rattle.units.proofs.Constants.{one_first, one_later, zero_part}
 use Rattle.units.proofs.quotients.one_part.Goals as goal

@@ -1,4 +1,4 @@
-use Rattle.std.proofs.Common.{◌≡◌, length, sym, ◌∙◌, ap, arith}
+use Rattle.std.proofs.Common.{◌≡◌, length, sym, ◌∙◌, ap}
 use Rattle.parts.specs.PartValue.{PartValue}
 use Rattle.parts.specs.RowsOfParts.{parts_of, part_in}
 use Rattle.parts.specs.Series.{polynomial_in}

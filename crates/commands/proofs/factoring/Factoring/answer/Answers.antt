@@ -1,7 +1,7 @@
 use Rattle.std.proofs.Common.{◌∙◌, ap, Err}
 use Rattle.std.proofs.lemmas.Result.{err_from_is_err_and}
 use Rattle.script.specs.Script.{Has}
-use Rattle.commands.specs.declared.words.Command.TheVariants.{Factor}
+use Rattle.commands.specs.declared.words.ScriptCommand.TheVariants.{Factor}
 use Rattle.commands.proofs.FactoringSteps.{steps_more, steps_most, known, answers, next, steps}
 use Rattle.commands.proofs.Replied.{answered, not_written, not_begun}
 use Rattle.commands.proofs.factoring.Factoring.answer.Goals as goal

@@ -1,6 +1,5 @@
-use Rattle.std.proofs.Common.{◌∙◌, ap, subst, sym, Err}
+use Rattle.std.proofs.Common.{◌∙◌, subst, sym}
 use Rattle.script.specs.declared.refusal.Refusal.TheVariants.{LineTooLong}
-use Rattle.commands.specs.declared.words.Command.TheVariants.{Expand}
 use Rattle.commands.specs.declared.reading.Reading.TheVariants.{Inputs}
 use Rattle.commands.specs.Lines.{AnswersLine, IsReading, state_in}
 use Rattle.commands.proofs.LinesDone.{does_long, does_skip, refused_line, skipped_line}

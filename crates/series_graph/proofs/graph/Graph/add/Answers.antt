@@ -14,7 +14,7 @@ added : (c : In_ok-push) → graph_of c.self.inside.ring c.push.new.self.items
     ≡ with_node (graph_of c.self.inside.ring c.self.inside.nodes.items) (formula_of c.args.form) c.args.constant
 added c = node_added c.self.inside.ring c.self.inside.nodes.items c.push.new.self.items
     (record { form = c.args.form; constant = c.args.constant; known = c.new.result }) c.in_ok-push.ensures.items
-    c.new.ensures.items
+    c.new.ensures
 
 pub invariant_of-self-2 : goal.invariant_of-self-2
 invariant_of-self-2 c = subst IsGraph (sym (added c))

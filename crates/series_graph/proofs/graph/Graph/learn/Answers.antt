@@ -25,7 +25,7 @@ invariant_of-self c = subst IsGraph (sym (node_kept c.self.inside.nodes.items c.
       constant = c.index_mut.result.now.constant;
       known = c.push.new.self;
     }) (there (goal.at.invariant_of-self c).After-push) c.index_mut.ensures.value c.self.inside.ring refl refl
-    c.in_err-push.ensures.items)) c.self.invariant
+    c.in_err-push.ensures.err)) c.self.invariant
 
 pub returns-in_err-push-clause-err : goal.returns-in_err-push-clause-err
 returns-in_err-push-clause-err c = on_err c.from_residual-in_err-push.result _
@@ -35,7 +35,7 @@ returns-in_err-push-clause-err c = on_err c.from_residual-in_err-push.result _
       constant = c.index_mut.result.now.constant;
       known = c.push.new.self;
     }) (there (goal.at.returns-in_err-push-clause-err c).After-push) c.index_mut.ensures.value c.self.inside.ring refl
-    refl c.in_err-push.ensures.items ∙ c.self.view_is)
+    refl c.in_err-push.ensures.err ∙ c.self.view_is)
 
 learned : (c : In_ok-push) → c.args.i < length c.self.inside.nodes.items
     → graph_of c.self.inside.ring (set c.self.inside.nodes.items c.args.i (record {
@@ -47,7 +47,7 @@ learned c lt = node_learned c.self.inside.nodes.items c.args.i c.index_mut.resul
   form = c.index_mut.result.now.form;
   constant = c.index_mut.result.now.constant;
   known = c.push.new.self;
-}) lt c.index_mut.ensures.value c.self.inside.ring refl refl c.in_ok-part.part c.in_ok-push.ensures.items
+}) lt c.index_mut.ensures.value c.self.inside.ring refl refl (arc_value c.in_ok-part.part) c.in_ok-push.ensures.ok
 
 pub invariant_of-self-2 : goal.invariant_of-self-2
 invariant_of-self-2 c =

@@ -6,15 +6,15 @@ use Rattle.series_graph.specs.Formula.{place_of}
 use Rattle.series_graph.specs.GraphValue.{known_at, IsGraph, IsKnownPart}
 use Rattle.series_graph.proofs.GraphMeanings.{graph_means}
 use Rattle.series_graph.proofs.graph.Graph.part.Goals as goal
-use Rattle.series_graph.proofs.graph.Graph.part.Goals.{After-index-2}
+use Rattle.series_graph.proofs.graph.Graph.part.Goals.{After-part}
 
-value : (c : After-index-2)
-    → arc_value c.index-2.result.now ≡ part_in (known_at c.args.self.now (place_of c.args.id)) c.args.r
+value : (c : After-part)
+    → arc_value c.part.result.now ≡ part_in (known_at c.args.self.now (place_of c.args.id)) c.args.r
 value c = grind (arith, common_steps)
 
 pub returns-clause-part : goal.returns-clause-part
 returns-clause-part c = subst (IsKnownPart c.args.self.now.ring c.args.self.now.formulas (place_of c.args.id) c.args.r)
-    (sym (value (goal.at.returns-clause-part c).After-index-2))
+    (sym (value (goal.at.returns-clause-part c).After-part))
     ((subst IsGraph c.self.view_is c.self.invariant).known_are (place_of c.args.id) c.args.r c.requires.id
     c.requires.known)
 

@@ -1,0 +1,13 @@
+pub mod SliceTerms
+pub mod ComparedSlices
+pub mod FirstSlices
+pub mod LowTerms
+pub mod ComparedViews
+pub mod Weights
+pub mod SameLists
+pub mod ByDegree
+pub mod FirstFactors
+pub mod ReadPolynomials
+pub mod BlockPlaces
+pub mod PlacesDecided
+pub mod PlacesOnce

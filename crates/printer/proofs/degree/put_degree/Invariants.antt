@@ -1,0 +1,16 @@
+use Rattle.std.proofs.Common.{◌+◌, ℕ, List, drop}
+use Rattle.ps_model.specs.StreamText.{lines_of_all}
+use Rattle.parts.specs.Series.{series}
+use Rattle.printer.specs.Texts.{factors_to, view_degree_text}
+use Rattle.printer.proofs.Pieces.{IsLeft}
+use Rattle.printer.proofs.degree.put_degree.Given as goal
+
+abbrev pub invariant-loop-i : goal.invariant-loop-i
+invariant-loop-i g l =
+    let written = g.K.Sink.written in
+    let faults = g.K.Sink.faults in
+    let value = g.V.BlockView.value l.view in
+    let names : List (List ℕ) = g.V.NameView.names l.view in
+    IsLeft (written l.fn.sink) (written l.sink) (faults l.fn.sink) (faults l.sink)
+    l.fn.buffer l.buffer (view_degree_text names value l.r)
+    (lines_of_all (series value.ring) names l.r (l.i + 1) (drop l.i value.roots) (drop l.i (factors_to value l.r)))
