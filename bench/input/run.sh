@@ -29,7 +29,7 @@ row() {
     awk -v once="$once" -v many="$many" -v times=$(($3 - 1)) -v count="$4" -v pairs="$5" -v named="$6" \
         -v head="| \`$1\` | $2" 'BEGIN {
         taken = (many - once) / times
-        printf "%s | %.2f | %d | %.2f | %d | %.2f | %d | %.2f |\n", head, taken / 1e6, count, taken / count, \
+        printf "%s | %.2f | %d | %.2f | %d | %.2f | %.0f | %.2f |\n", head, taken / 1e6, count, taken / count, \
             pairs, taken / pairs, named, taken / named
     }'
 }

@@ -1,7 +1,7 @@
-//! `input_speed`: the rows of an expression in x and y, to be timed from outside.
+//! `input_speed`: the rows of an expression in x, or in x and y, to be timed from outside.
 #![tactic(auto)]
 
-ghost use Rattle.std.specs.Prelude.{◌≡◌, ◌≤◌, ◌∷◌, [], length, IfOk, IfSome};
+ghost use Rattle.std.specs.Prelude.{◌≡◌, ◌<◌, ◌≤◌, ◌∷◌, [], length, IfOk, IfSome};
 
 use expr_reader::{Names, read};
 use intake::FreeInput;
@@ -21,15 +21,19 @@ struct Work<'w> {
     text: &'w [u8],
 }
 
-/// The names x and y.
-fn two_names(alloc: Global) -> Result<Names, OutOfMemory>
-    ensures { IfOk result (λ names. length names ≡ 2) }
+/// The name x, and y behind it where the text has one.
+fn names_of(alloc: Global, text: &[u8]) -> Result<Names, OutOfMemory>
+    ensures some { IfOk result (λ names. 0 < length names) }
+    ensures few { IfOk result (λ names. length names ≤ 2) }
 {
     let mut names = Names::new(alloc);
-    if names.add("x").is_err() || names.add("y").is_err() {
+    if names.add("x").is_err() {
         return Err(OutOfMemory);
     }
-    if names.len() != 2 {
+    if text.contains(&b'y') && names.add("y").is_err() {
+        return Err(OutOfMemory);
+    }
+    if names.len() == 0 || names.len() > 2 {
         return Err(OutOfMemory);
     }
     Ok(names)
@@ -55,7 +59,7 @@ fn line_of(alloc: Global, work: &Work<'_>) -> Result<String, OutOfMemory>
     requires permitted { work.now.degree ≤ 4095 }
     requires length { length work.now.text.now ≤ 65536 }
 {
-    let names = two_names(alloc)?;
+    let names = names_of(alloc, work.text)?;
     let tree = match read(alloc, work.text, &names) {
         Ok(tree) => tree,
         Err(error) => return Ok(format!(in alloc; "refused: {error}")?),
