@@ -19,11 +19,11 @@ use Rattle.commands.specs.Checks.{IsTold, Ends, IsTooLong, IsCheckedFrom, IsChec
 use Rattle.commands.specs.Runs.{Finishes, Ran}
 use Rattle.commands.specs.Statuses.{status_of}
 use Rattle.commands.specs.Telling.{IsAnswer, Tells}
+use Rattle.commands.specs.Words.{Check}
 use Rattle.commands.specs.declared.checking.Checking.{Checking}
 use Rattle.commands.specs.declared.stop.Stop.{Stop}
 use Rattle.commands.specs.declared.stop.Stop.TheVariants as stop
-use Rattle.commands.specs.declared.words.Command.TheVariants.{Check}
-use Rattle.commands.proofs.LinesDone.{nothing_written, writes_nothing}
+use Rattle.commands.proofs.LinesDone.{writes_nothing}
 use Rattle.commands.proofs.RunsDone.{IsInputOf, input_of, mark, mark_is, mark_ended, takes_none, taken_more}
 use Rattle.commands.proofs.CheckPaths.{behind_lines, before_lines, leads_more, short_more, short_within, shorter}
 
@@ -182,7 +182,7 @@ module _ (old new : lines.Reading) (c : Checking) (left mid left' : Option (List
 
     whole_told : (more : List ℕ) → IsLeft left (new.pulled ++ more) → (ys : List Item)
         → items_of true (new.pulled ++ more) ≡ far.done ++ ys → TellsOf true ys → IsAnswer status
-        → Finishes Check left written new_written tally tally' status
+        → Finishes (Some Check) left written new_written tally tally' status
     whole_told more is_left ys are tells answer =
         let all = tells.all answer in
         record {
@@ -221,14 +221,14 @@ module _ (old new : lines.Reading) (c : Checking) (left mid left' : Option (List
             (subst (λ items. IsCheckedFrom e (checking.Begun Empty) 1 items t s n) are h)
 
     ran_told : (read read' : ℕ) → read ≤ read' → (wrote₀ : ℕ) → wrote₀ ≤ wrote
-        → (IsAnswer status → Finishes Check left written new_written tally tally' status)
+        → (IsAnswer status → Finishes (Some Check) left written new_written tally tally' status)
         → ((status ≡ 4) ⊎ (status ≡ 5) → StopsWithin (Some Check) left left' written new_written tally tally')
         → ((status ≡ 0) ⊎ (status ≡ 6) → AllTaken left') → (status ≡ 4 → Rose wrote wrote') → status ≢ 3 → status ≤ 6
         → wrote ≤ wrote'
-        → Ran Check status left left' read read' written new_written wrote₀ wrote' tally tally'
+        → Ran (Some Check) status left left' read read' written new_written wrote₀ wrote' tally tally'
     ran_told read read' source_faults wrote₀ sink_faults whole part over cause no_read low faults = record {
       whole = whole;
-      end = over;
+      end = λ is reads. over is;
       read_fault = λ is. absurd (no_read is);
       write_fault = λ is. let rose = cause is in omega (arith, rose, sink_faults);
       answers = λ is. absurd (no_read is);
@@ -249,7 +249,7 @@ module _ (old new : lines.Reading) (c : Checking) (left mid left' : Option (List
       ran_item : (x : Item) → ((e : Bool) (more : List ℕ) → CanFollow new e more
           → (rest : List Item) × (items_of e (new.pulled ++ more) ≡ far.done ++ x ∷ rest))
           → ((e : Bool) (rest : List Item) → TellsOf e (x ∷ rest)) → (status ≡ 0 → ⊥) → (status ≡ 6 → ⊥)
-          → Ran Check status left left' read read' written new_written wrote₀ wrote' tally tally'
+          → Ran (Some Check) status left left' read read' written new_written wrote₀ wrote' tally tally'
       ran_item x next tells none six =
           let whole = next true from.more can_follow in
           let e : Bool = mark left' new.ended in
@@ -267,7 +267,7 @@ module _ (old new : lines.Reading) (c : Checking) (left mid left' : Option (List
           → ((e : Bool) (rest : List Item)
           → Tells (IsCheckedFrom e (state_in c) n (Line new.text ∷ rest)) status written new_written wrote wrote'
           tally tally') → (status ≡ 0 → ⊥) → (status ≡ 6 → ⊥)
-          → Ran Check status left left' read read' written new_written wrote₀ wrote' tally tally'
+          → Ran (Some Check) status left left' read read' written new_written wrote₀ wrote' tally tally'
       ran_check_line takes n is tells none six = ran_item (Line new.text)
           (next_line old new mid left' source source' bytes unmoved room ended_stays far.done far.consumed takes)
           (λ e rest. subst (λ k. Tells (IsCheckedFrom e (state_in c) k (Line new.text ∷ rest)) status written
@@ -281,7 +281,7 @@ module _ (old new : lines.Reading) (c : Checking) (left mid left' : Option (List
       pub ran_check_too_long : lines.NeedsLastByte new → lines.KeepsLine old new → (n : ℕ) → n ≡ suc old.number
           → Tells (IsTold (state_in c) n IsTooLong) status written new_written wrote wrote' tally tally'
           → (status ≡ 0 → ⊥) → (status ≡ 6 → ⊥)
-          → Ran Check status left left' read read' written new_written wrote₀ wrote' tally tally'
+          → Ran (Some Check) status left left' read read' written new_written wrote₀ wrote' tally tally'
       ran_check_too_long needs keeps n is tells none six = ran_item TooLong
           (next_too_long old new mid left' source source' bytes unmoved room ended_stays far.done far.consumed needs
           keeps)
@@ -292,7 +292,7 @@ module _ (old new : lines.Reading) (c : Checking) (left mid left' : Option (List
       pub ran_check_end : (new.ended ≡ true) × (lines.rest_of new ≡ []) → lines.KeepsLine old new → (n : ℕ)
           → n ≡ suc old.number
           → Tells (IsTold (state_in c) n Ends) status written new_written wrote wrote' tally tally'
-          → Ran Check status left left' read read' written new_written wrote₀ wrote' tally tally'
+          → Ran (Some Check) status left left' read read' written new_written wrote₀ wrote' tally tally'
       ran_check_end at keeps n is tells =
           let here : TellsOf true [] = subst (λ k. Tells (IsTold (state_in c) k Ends) status written new_written wrote
           wrote' tally tally') (is ∙ (let count = far.consumed.counted in omega arith)) tells in
@@ -315,10 +315,10 @@ module _ (old new : lines.Reading) (c : Checking) (left mid left' : Option (List
   pub ran_check_failed : new.ended ≡ false → lines.HasNoNewline (lines.rest_of new)
       → (length new.pulled ≡ 1048577 → ⊥) → lines.KeepsLine old new → (written : Option (List ℕ))
       (read read' wrote wrote' tally : ℕ) → Rose read read' → read ≤ read' → wrote ≤ wrote'
-      → Ran Check 3 left left' read read' written written wrote wrote' tally tally
+      → Ran (Some Check) 3 left left' read read' written written wrote wrote' tally tally
   ran_check_failed going none full keeps written read read' wrote wrote' tally rose source_faults sink_faults = record {
     whole = λ low. absurd (elim low [ inl two ↦ omega arith | inr six ↦ omega arith ]);
-    end = λ is. absurd (elim is [ inl none ↦ omega arith | inr six ↦ omega arith ]);
+    end = λ is reads. absurd (elim is [ inl none ↦ omega arith | inr six ↦ omega arith ]);
     read_fault = λ is. rose;
     write_fault = λ is. absurd (omega arith);
     answers = λ is. record {
@@ -336,29 +336,6 @@ module _ (old new : lines.Reading) (c : Checking) (left mid left' : Option (List
     source_faults = source_faults;
     sink_faults = sink_faults;
   }
-
--- no memory for the lines
-pub ran_check_first : (left written : Option (List ℕ)) (read wrote tally : ℕ)
-    → Ran Check 5 left left read read written written wrote wrote tally tally
-ran_check_first left written read wrote tally = record {
-  whole = λ low. absurd (elim low [ inl two ↦ omega arith | inr six ↦ omega arith ]);
-  end = λ is. absurd (elim is [ inl none ↦ omega arith | inr six ↦ omega arith ]);
-  read_fault = λ is. absurd (omega arith);
-  write_fault = λ is. absurd (omega arith);
-  answers = λ is. absurd (omega arith);
-  part = λ is. record {
-    bytes = [];
-    taken = takes_none left;
-    ended = mark left false;
-    mark = mark_is left false;
-    writes = λ text steps h. nothing_written written text;
-    more = omega arith;
-    at_most = λ text steps h. omega arith;
-  };
-  low = omega arith;
-  source_faults = omega arith;
-  sink_faults = omega arith;
-}
 
 -- a run that stops isn't one that was answered
 pub never_none : (e : Stop) → status_of e ≡ 0 → ⊥

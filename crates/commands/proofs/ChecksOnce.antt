@@ -11,6 +11,7 @@ use Rattle.ps_model.specs.declared.job.JobData.{JobData}
 use Rattle.parts.specs.Rings.{weights_of, variables_of}
 use Rattle.parts.specs.declared.rings.Ring.{Ring}
 use Rattle.comparison.specs.declared.place.Place.{Place}
+use Rattle.demo.proofs.DemoJobs.{one_text}
 use Rattle.expr_reader.specs.NameLists.{as_names}
 use Rattle.printer.specs.ReadBlock.{variable_names}
 use Rattle.printer.specs.ReadText.{IsRefused}
@@ -31,9 +32,8 @@ use Rattle.commands.specs.Checks.{Behind, GoesOn, Ends, IsTooLong, IsLacking, Is
 use Rattle.commands.specs.Checks.{IsFollowed, IsCheckedFrom, IsChecked}
 use Rattle.commands.specs.Judging.{IsSeen, Tells, verdict_text, verdict_status}
 use Rattle.commands.specs.Output.{IsOutput}
-use Rattle.commands.specs.Words.{usage_line}
-use Rattle.commands.specs.declared.words.Command.{Command}
-use Rattle.commands.specs.declared.words.Command.TheVariants as command
+use Rattle.commands.specs.Words.{Work, usage_line}
+use Rattle.commands.specs.Words as work
 use Rattle.commands.proofs.BlocksDecided.{text_decided}
 use Rattle.commands.proofs.BlockTold.{not_permitted, least_unpermitted}
 use Rattle.commands.proofs.Compared.{compared}
@@ -223,12 +223,21 @@ checks_once ended bytes =
     }
 
 -- the program's output
-pub output_once : (command : Option Command) (input : List ℕ)
-    → ExactlyOne {A = List ℕ × ℕ × ℕ} (λ w. IsOutput command input w.0 w.1 w.2)
+pub output_once : (o : Option Work) (input : List ℕ)
+    → ExactlyOne {A = List ℕ × ℕ × ℕ} (λ w. IsOutput o input w.0 w.1 w.2)
 output_once None input = record {
   one_value = (usage_line, 2, 0);
   meets = (refl, refl, refl);
   only = λ w h i. (h.0 i, h.1 i, h.2 i);
 }
-output_once (Some (command.Script c)) input = requests_once c input
-output_once (Some command.Check) input = checks_once true input
+output_once (Some (work.Script c)) input = requests_once c input
+output_once (Some work.Check) input = checks_once true input
+output_once (Some (work.Demo n)) input =
+    let one = one_text n in
+    record {
+      one_value = (one.one_value, 0, 164);
+      meets = (one.meets, refl, refl);
+      only = λ w h.
+          let same = one.only w.0 h.0 in
+          λ i. (same i, h.1 i, h.2 i);
+    }

@@ -15,7 +15,7 @@ use Rattle.script.specs.Script.{Has}
 use Rattle.script.specs.declared.request.Request.TheVariants.{Show}
 use Rattle.commands.specs.Answering.{AnswersOnly, ExpandingValue}
 use Rattle.commands.specs.Expandings.{expanding_of, AreValueRows, IsExpanding}
-use Rattle.commands.specs.declared.words.ScriptCommand.TheVariants.{Expand}
+use Rattle.commands.specs.declared.command.ScriptCommand.TheVariants.{Expand}
 use Rattle.commands.proofs.InputTexts.{low_degree, degree_is, rows_written, input_answers}
 use Rattle.commands.proofs.RowsExtended.{RowVec}
 

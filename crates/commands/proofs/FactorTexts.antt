@@ -30,7 +30,7 @@ use Rattle.session.proofs.Written.{written}
 use Rattle.commands.specs.Answering.{AnswersOnly}
 use Rattle.commands.specs.Replies.{IsBlock, IsStream}
 use Rattle.commands.specs.Streams.{texts_up_to, view_stream_text, view_answer}
-use Rattle.commands.specs.declared.words.ScriptCommand.TheVariants.{Factor}
+use Rattle.commands.specs.declared.command.ScriptCommand.TheVariants.{Factor}
 use Rattle.commands.proofs.CutTexts.{cut_lead, degree_cut}
 use Rattle.commands.proofs.StreamSteps.{lower_known}
 

@@ -10,7 +10,7 @@ use Rattle.session.specs.Sessions.{SessionState, value_of, IsSession, HasItems}
 use Rattle.commands.specs.Answering.{AnswersOnly, FactoringValue}
 use Rattle.commands.specs.Factorings.{factoring_of, IsFactoring}
 use Rattle.commands.specs.Streams.{view_answer}
-use Rattle.commands.specs.declared.words.ScriptCommand.TheVariants.{Factor}
+use Rattle.commands.specs.declared.command.ScriptCommand.TheVariants.{Factor}
 use Rattle.commands.proofs.Counted.{ticked_more, ticked_most, ticked, even_at, next_is}
 use Rattle.commands.proofs.FactorTexts.{names_named, even_up_to, view_answers}
 

@@ -19,7 +19,7 @@ use Rattle.script.specs.Script.{Begun, Has, outcome_of, asked_by}
 use Rattle.script.specs.Words.{is_skipped, words, rest_of_line}
 use Rattle.script.specs.declared.refusal.Refusal.TheVariants as refusal
 use Rattle.script.proofs.JobsOnce.{one_job_fault}
-use Rattle.commands.specs.declared.words.ScriptCommand.{ScriptCommand}
+use Rattle.commands.specs.declared.command.ScriptCommand.{ScriptCommand}
 use Rattle.commands.specs.Answering.{DoesOnly}
 use Rattle.commands.specs.Words.{takes_streams}
 use Rattle.commands.proofs.LinesDone.{does_content}

@@ -32,7 +32,7 @@ use Rattle.session.proofs.JobRings.{same_job, accepted_in}
 use Rattle.commands.specs.Answering.{AnswersOnly}
 use Rattle.commands.specs.Expandings.{AreValueRows}
 use Rattle.commands.specs.Replies.{IsInput}
-use Rattle.commands.specs.declared.words.ScriptCommand.TheVariants.{Expand}
+use Rattle.commands.specs.declared.command.ScriptCommand.TheVariants.{Expand}
 
 row_whole : (R : PolynomialRing) (K r : ℕ) (p : Polynomial R) (row : _) → IsRowOf K r (truncated R R.degree r p) row
     → IsRowOf K r p row

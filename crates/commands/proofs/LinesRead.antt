@@ -8,11 +8,12 @@ use Rattle.script.specs.Numbers.{is_number, number_of}
 use Rattle.std.specs.Str.{bytes_eq}
 use Rattle.ps_model.specs.AcceptedJob.{IsAccepted}
 use Rattle.ps_model.specs.declared.job.JobData.{JobData}
-use Rattle.parts.specs.JobRows.{IsRingOf}
+use Rattle.parts.specs.JobRows.{IsPermitted, IsRingOf}
 use Rattle.parts.specs.Rings.{weights_of}
 use Rattle.parts.specs.declared.rings.Ring.{Ring}
 use Rattle.stages.proofs.LineTitles.{few_roots}
 use Rattle.session.proofs.Opened.{same_weights}
+use Rattle.session.specs.Precisions.{weights_in}
 use Rattle.script.specs.Header.{Header, HeaderSays}
 use Rattle.script.specs.Header as header
 use Rattle.script.specs.Requests.{RequestSaid, Refused, precision_of, precision_in, degree_in, asked, words_said}
@@ -28,7 +29,7 @@ use Rattle.commands.specs.declared.reading.Reading.{Reading}
 use Rattle.commands.specs.declared.reading.Reading.TheVariants.{Begun}
 use Rattle.commands.specs.declared.stop.Stop.{Stop}
 use Rattle.commands.specs.declared.stop.Stop.TheVariants as stop
-use Rattle.commands.specs.declared.words.ScriptCommand.{ScriptCommand}
+use Rattle.commands.specs.declared.command.ScriptCommand.{ScriptCommand}
 use Rattle.commands.specs.Answering.{DoesOnly}
 use Rattle.commands.specs.Lines.{AnswersLine, IsOpened}
 use Rattle.commands.specs.Words.{takes_streams}
@@ -76,43 +77,58 @@ shows_alone ws line q is = by (words line) is
     by [] is = absurd (let no : ⊥ = cc in no)
     by (w ∷ more) is = of_word (bytes_eq w (codes "show")) more is
 
--- a precision that is asked for is within its limit
-pub low_precision : (streams : Bool) (ws : List ℕ) (line : List ℕ) (q : Request)
-    → request.Asks q ≡ request_said streams ws line → precision_of q ≤ 4095
-low_precision streams ws line q is = by (words line) is
+-- a precision that is asked for is permitted
+pub permitted_precision : (streams : Bool) (ws : List ℕ) (line : List ℕ) (q : Request)
+    → request.Asks q ≡ request_said streams ws line → IsPermitted ws (precision_of q)
+permitted_precision streams ws line q is = by (words line) is
   where
-    of_degree : (d n : ℕ) → Ok d ≡ degree_in ws n → d ≤ 4095
+    of_degree : (d n : ℕ) → Ok d ≡ degree_in ws n → IsPermitted ws d
     of_degree d n is = elim (leb_tells 4096 n) [
       | inl high ↦ absurd (let no : ⊥ = cc in no)
       | inr low ↦ elim (leb_tells 32769 (monomials_up_to ws n)) [
         | inl many ↦ absurd (let no : ⊥ = cc in no)
-        | inr few ↦ (let same : d ≡ n = cc in let below = low.1 in omega arith)
+        | inr few ↦ (let same : d ≡ n = cc in let below = low.1 in let at_most = few.1 in
+            (omega arith, subst (λ k. monomials_up_to ws k ≤ 32768) (sym same) (omega arith)))
       ]
     ]
 
-    of_words : (d : ℕ) (l : List (List ℕ)) → Ok d ≡ precision_in ws l → d ≤ 4095
+    of_words : (d : ℕ) (l : List (List ℕ)) → Ok d ≡ precision_in ws l → IsPermitted ws d
     of_words d [] is = absurd (let no : ⊥ = cc in no)
     of_words d (w ∷ []) is = by (is_number w) is
       where
-        by : (b : Bool) → Ok d ≡ (if b then degree_in ws (number_of w) else Err refusal.BadRequest) → d ≤ 4095
+        by : (b : Bool) → Ok d ≡ (if b then degree_in ws (number_of w) else Err refusal.BadRequest)
+            → IsPermitted ws d
         by true is = of_degree d (number_of w) is
         by false is = absurd (let no : ⊥ = cc in no)
     of_words d (w ∷ v ∷ more) is = absurd (let no : ⊥ = cc in no)
 
     of_asked : (ask : ℕ → Request) → ((d : ℕ) → precision_of (ask d) ≡ d) → (more : List (List ℕ))
-        → (d : Result ℕ Refusal) → d ≡ precision_in ws more → request.Asks q ≡ asked ask d → precision_of q ≤ 4095
+        → (d : Result ℕ Refusal) → d ≡ precision_in ws more → request.Asks q ≡ asked ask d
+        → IsPermitted ws (precision_of q)
     of_asked ask back more (Ok d) from is =
-        (let same : q ≡ ask d = cc in let of = ap precision_of same ∙ back d in let low = of_words d more from in omega arith)
+        let same : q ≡ ask d = cc in
+        subst (IsPermitted ws) (sym (ap precision_of same ∙ back d)) (of_words d more from)
     of_asked ask back more (Err f) from is = absurd (let no : ⊥ = cc in no)
 
     by_word : (show stream : Bool) (more : List (List ℕ))
         → request.Asks q ≡ (if show then asked Show (precision_in ws more)
         else (if stream then asked Stream (precision_in ws more) else Refused refusal.ExpectedRequest))
-        → precision_of q ≤ 4095
+        → IsPermitted ws (precision_of q)
     by_word true stream more is = of_asked Show (λ d. refl) more (precision_in ws more) refl is
     by_word false true more is = of_asked Stream (λ d. refl) more (precision_in ws more) refl is
     by_word false false more is = absurd (let no : ⊥ = cc in no)
 
-    by : (l : List (List ℕ)) → request.Asks q ≡ words_said streams ws l → precision_of q ≤ 4095
+    by : (l : List (List ℕ)) → request.Asks q ≡ words_said streams ws l → IsPermitted ws (precision_of q)
     by [] is = absurd (let no : ⊥ = cc in no)
     by (w ∷ more) is = by_word (bytes_eq w (codes "show")) (streams && bytes_eq w (codes "stream")) more is
+
+-- by the ring of the job
+pub permitted_in : (streams : Bool) (ring : Ring) (job : JobData) (line : List ℕ) (q : Request) → IsRingOf ring job
+    → request.Asks q ≡ request_said streams (weights_of ring) line → IsPermitted (weights_in job) (precision_of q)
+permitted_in streams ring job line q of is = subst (λ ws. IsPermitted ws (precision_of q)) (same_weights ring job of)
+    (permitted_precision streams (weights_of ring) line q is)
+
+-- and so it is low
+pub low_precision : (streams : Bool) (ws : List ℕ) (line : List ℕ) (q : Request)
+    → request.Asks q ≡ request_said streams ws line → precision_of q ≤ 4095
+low_precision streams ws line q is = (permitted_precision streams ws line q is).0

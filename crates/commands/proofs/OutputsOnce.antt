@@ -33,9 +33,9 @@ use Rattle.script.specs.declared.request.Request.{Request}
 use Rattle.script.specs.declared.request.Request.TheVariants.{Show, Stream}
 use Rattle.script.proofs.LeadsDecided.{lead_is_decided}
 use Rattle.script.proofs.Paths.{path_plain, path_once}
-use Rattle.commands.specs.declared.words.Command.TheVariants.{Script}
-use Rattle.commands.specs.declared.words.ScriptCommand.{ScriptCommand}
-use Rattle.commands.specs.declared.words.ScriptCommand.TheVariants.{Factor, Expand}
+use Rattle.commands.specs.Words.{Script}
+use Rattle.commands.specs.declared.command.ScriptCommand.{ScriptCommand}
+use Rattle.commands.specs.declared.command.ScriptCommand.TheVariants.{Factor, Expand}
 use Rattle.commands.specs.Answering.{AnswersOnly, DoesOnly, AreOnly}
 use Rattle.commands.specs.Output.{Asked, AreAnswers, IsEnd, IsMissing, IsWhole, IsOutput, steps_of}
 use Rattle.commands.specs.Replies.{Answers}

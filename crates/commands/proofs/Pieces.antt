@@ -1,5 +1,5 @@
 -- Texts that are written piece by piece, of which nothing is held back between the pieces.
-use Rattle.std.proofs.Common.{◌≡◌, ℕ, List, [], Option, Result, Ok, Err, append-nil, ◌∙◌, sym, subst}
+use Rattle.std.proofs.Common.{ℕ, List, [], Option, Result, Ok, Err, append-nil, ◌∙◌, sym, subst}
 use Rattle.ports.specs.Bytes.{WritesAll}
 use Rattle.printer.specs.Buffered.{Buffered}
 use Rattle.printer.specs.Wrote.{Wrote}

@@ -10,7 +10,7 @@ use Rattle.commands.specs.Answering.{AnswersOnly, Answered}
 use Rattle.commands.specs.Calls.{WritesBeginning}
 use Rattle.commands.specs.declared.stop.Stop.{Stop}
 use Rattle.commands.specs.declared.stop.Stop.TheVariants as stop
-use Rattle.commands.specs.declared.words.ScriptCommand.{ScriptCommand}
+use Rattle.commands.specs.declared.command.ScriptCommand.{ScriptCommand}
 
 beginning : (old now : Option (List ℕ)) (text : List ℕ) → WritesPart old now text → WritesBeginning old now text
 beginning None now text is = is

@@ -17,16 +17,15 @@ use Rattle.script.proofs.Paths.{path_append, path_refused, path_plain, path_once
 use Rattle.script.specs.declared.refusal.Refusal.{Refusal}
 use Rattle.script.specs.declared.request.Request.{Request}
 use Rattle.commands.specs.declared.reading.Reading.{Reading}
-use Rattle.commands.specs.declared.words.Command.TheVariants.{Script}
-use Rattle.commands.specs.declared.words.ScriptCommand.{ScriptCommand}
-use Rattle.commands.specs.declared.words.ScriptCommand.TheVariants.{Factor, Expand}
+use Rattle.commands.specs.declared.command.ScriptCommand.{ScriptCommand}
+use Rattle.commands.specs.declared.command.ScriptCommand.TheVariants.{Factor, Expand}
 use Rattle.commands.specs.Answering.{AreOnly, MayBe, DoesOnly, AnswersOnly}
 use Rattle.commands.specs.Calls.{WritesBeginning, IsLeft, IsMark, IsPart, StopsWithin, AnswersRequests}
 use Rattle.commands.specs.Lines.{state_in, spent_of, IsReading, Accounts, Steps}
 use Rattle.commands.specs.Output.{Asked, AreAnswers, IsEnd, IsMissing, steps_of}
 use Rattle.commands.specs.Replies.{Answers}
 use Rattle.commands.specs.Runs.{IsWholeAlone, FinishesRequests}
-use Rattle.commands.specs.Words.{takes_streams}
+use Rattle.commands.specs.Words.{Work, Script, takes_streams}
 use Rattle.commands.proofs.StepCounts.{steps_grow, spent_is}
 use Rattle.commands.proofs.LinesDone.{writes_nothing, nothing_written}
 
@@ -115,6 +114,19 @@ taken_more (Some x) (Some y) d first more h k = (
   h.2 ∙ ap (λ l. first ++ l) (sym (same_Some y h.0 h.1) ∙ k.2) ∙ sym (append_assoc first more k.0),
 )
 
+-- out of memory before the first line
+pub stops_first : (work : Option Work) (left written : Option (List ℕ)) (tally : ℕ)
+    → StopsWithin work left left written written tally tally
+stops_first work left written tally = record {
+  bytes = [];
+  taken = takes_none left;
+  ended = mark left false;
+  mark = mark_is left false;
+  writes = λ text steps part. nothing_written written text;
+  more = omega arith;
+  at_most = λ text steps part. omega arith;
+}
+
 module _ (c : ScriptCommand) where
   abbrev DoesSo : State → List ℕ → Outcome State Request → Type 0
   DoesSo = Does (takes_streams c)
@@ -155,19 +167,6 @@ module _ (c : ScriptCommand) where
     spends = (let is = spent_is c r [] accounts in let zero = no_steps in omega arith);
     taken = subst (TakesBytes left left) (sym pulled) (takes_none left);
     ended = λ is. absurd (let no = running in cc);
-  }
-
-  -- out of memory before the first line
-  pub stops_first : (left written : Option (List ℕ)) (tally : ℕ)
-      → StopsWithin (Some (Script c)) left left written written tally tally
-  stops_first left written tally = record {
-    bytes = [];
-    taken = takes_none left;
-    ended = mark left false;
-    mark = mark_is left false;
-    writes = λ text steps part. nothing_written written text;
-    more = omega arith;
-    at_most = λ text steps part. omega arith;
   }
 
   -- from one state of the lines to the next

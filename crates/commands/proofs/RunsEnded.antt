@@ -15,8 +15,7 @@ use Rattle.commands.specs.declared.reading.Reading.{Reading}
 use Rattle.commands.specs.declared.reading.Reading.TheVariants.{Begun, Factors, Inputs}
 use Rattle.commands.specs.declared.stop.Stop.{Stop}
 use Rattle.commands.specs.declared.stop.Stop.TheVariants as stop
-use Rattle.commands.specs.declared.words.Command.TheVariants.{Script}
-use Rattle.commands.specs.declared.words.ScriptCommand.{ScriptCommand}
+use Rattle.commands.specs.declared.command.ScriptCommand.{ScriptCommand}
 use Rattle.commands.specs.Answering.{AreOnly, MayBe}
 use Rattle.commands.specs.Calls.{WritesBeginning, StopsWithin}
 use Rattle.std.proofs.lemmas.Nat.{mul-le}
@@ -24,6 +23,7 @@ use Rattle.commands.specs.Lines.{state_in, spent_of, IsReading, HasCause, Answer
 use Rattle.commands.specs.Output.{Asked, steps_of}
 use Rattle.commands.specs.Runs.{FinishesRequests, Finishes, Ran, status_in}
 use Rattle.commands.specs.Statuses.{status_of}
+use Rattle.commands.specs.Words.{Work, Script}
 use Rattle.commands.proofs.RunsDone.{SoFar, stops_first, finishes_refused, stops_within, finishes_well, finishes_missing}
 use Rattle.commands.proofs.RunsDone.{stops_missing, answers_lines, so_far_line}
 use Rattle.commands.proofs.StepCounts.{spent_is, steps_grow}
@@ -35,11 +35,26 @@ rose_later a b d le rose = omega (arith, rose)
 rose_before : (a b d : ℕ) → b ≤ d → Rose a b → Rose a d
 rose_before a b d le rose = omega (arith, rose)
 
+-- no memory for the words, or for the lines
+pub ran_first : (work : Option Work) (left written : Option (List ℕ)) (read wrote tally : ℕ)
+    → Ran work 5 left left read read written written wrote wrote tally tally
+ran_first work left written read wrote tally = record {
+  whole = λ low. absurd (elim low [ inl two ↦ omega arith | inr six ↦ omega arith ]);
+  end = λ is reads. absurd (elim is [ inl none ↦ omega arith | inr six ↦ omega arith ]);
+  read_fault = λ is. absurd (omega arith);
+  write_fault = λ is. absurd (omega arith);
+  answers = λ is. absurd (omega arith);
+  part = λ is. stops_first work left written tally;
+  low = omega arith;
+  source_faults = omega arith;
+  sink_faults = omega arith;
+}
+
 module _ (c : ScriptCommand) where
   -- what is written for requests, as the output of the command
   finished : (left written written' : Option (List ℕ)) (tally tally' status : ℕ)
       → FinishesRequests c left written written' tally tally' status
-      → Finishes (Script c) left written written' tally tally' status
+      → Finishes (Some (Script c)) left written written' tally tally' status
   finished left written written' tally tally' status done = record {
     input = done.input;
     is_left = done.is_left;
@@ -52,31 +67,16 @@ module _ (c : ScriptCommand) where
     spends = done.spends;
   }
 
-  -- no memory for the lines
-  pub ran_first : (left written : Option (List ℕ)) (read wrote tally : ℕ)
-      → Ran (Script c) 5 left left read read written written wrote wrote tally tally
-  ran_first left written read wrote tally = record {
-    whole = λ low. absurd (elim low [ inl two ↦ omega arith | inr six ↦ omega arith ]);
-    end = λ is. absurd (elim is [ inl none ↦ omega arith | inr six ↦ omega arith ]);
-    read_fault = λ is. absurd (omega arith);
-    write_fault = λ is. absurd (omega arith);
-    answers = λ is. absurd (omega arith);
-    part = λ is. stops_first c left written tally;
-    low = omega arith;
-    source_faults = omega arith;
-    sink_faults = omega arith;
-  }
-
   module _ (left left' written new_written : Option (List ℕ)) (read read' wrote wrote' tally tally' : ℕ)
       (source_faults : read ≤ read') (sink_faults : wrote ≤ wrote') where
     -- a run that stops for this
     ran_stopped : (e : Stop) → (e ≡ stop.ReadFault → ⊥) → (e ≡ stop.WriteFault → Rose wrote wrote')
         → (e ≡ stop.Refused → FinishesRequests c left written new_written tally tally' 1)
         → ((e ≡ stop.Refused → ⊥) → StopsWithin (Some (Script c)) left left' written new_written tally tally')
-        → Ran (Script c) (status_of e) left left' read read' written new_written wrote wrote' tally tally'
+        → Ran (Some (Script c)) (status_of e) left left' read read' written new_written wrote wrote' tally tally'
     ran_stopped stop.Refused not_read rose finishes stops = record {
       whole = λ low. finished left written new_written tally tally' 1 (finishes refl);
-      end = λ is. absurd (elim is [ inl none ↦ omega arith | inr six ↦ omega arith ]);
+      end = λ is reads. absurd (elim is [ inl none ↦ omega arith | inr six ↦ omega arith ]);
       read_fault = λ is. absurd (omega arith);
       write_fault = λ is. absurd (omega arith);
       answers = λ is. absurd (omega arith);
@@ -88,7 +88,7 @@ module _ (c : ScriptCommand) where
     ran_stopped stop.ReadFault not_read rose finishes stops = absurd (not_read refl)
     ran_stopped stop.WriteFault not_read rose finishes stops = record {
       whole = λ low. absurd (elim low [ inl two ↦ omega arith | inr six ↦ omega arith ]);
-      end = λ is. absurd (elim is [ inl none ↦ omega arith | inr six ↦ omega arith ]);
+      end = λ is reads. absurd (elim is [ inl none ↦ omega arith | inr six ↦ omega arith ]);
       read_fault = λ is. absurd (omega arith);
       write_fault = λ is. rose refl;
       answers = λ is. absurd (omega arith);
@@ -99,7 +99,7 @@ module _ (c : ScriptCommand) where
     }
     ran_stopped stop.OutOfMemory not_read rose finishes stops = record {
       whole = λ low. absurd (elim low [ inl two ↦ omega arith | inr six ↦ omega arith ]);
-      end = λ is. absurd (elim is [ inl none ↦ omega arith | inr six ↦ omega arith ]);
+      end = λ is reads. absurd (elim is [ inl none ↦ omega arith | inr six ↦ omega arith ]);
       read_fault = λ is. absurd (omega arith);
       write_fault = λ is. absurd (omega arith);
       answers = λ is. absurd (omega arith);
@@ -131,7 +131,7 @@ module _ (c : ScriptCommand) where
     -- the next line isn't
     pub ran_line : lines.TakesLine old new → (e : Stop) (new_written : Option (List ℕ)) (wrote' tally' : ℕ)
         → AnswersLine c r new.text new.number (Err e) mid_written new_written mid_wrote wrote' mid_tally tally'
-        → Ran (Script c) (status_of e) left left' read read' written new_written wrote wrote' tally tally'
+        → Ran (Some (Script c)) (status_of e) left left' read read' written new_written wrote wrote' tally tally'
     ran_line takes e new_written wrote' tally' answers =
         ran_stopped left left' written new_written read read' wrote wrote' tally tally' source_faults
         (let grow = answers.faults in omega arith) e not_read
@@ -168,7 +168,7 @@ module _ (c : ScriptCommand) where
     -- a line needs the byte behind the last that an input may have
     pub ran_too_long : lines.NeedsLastByte new → lines.KeepsLine old new → (e : Stop) (new_written : Option (List ℕ))
         (wrote' : ℕ) → Refuses e mid_written new_written mid_wrote wrote' (line_refused (new.number + 1) refusal.InputTooLong)
-        → Ran (Script c) (status_of e) left left' read read' written new_written wrote wrote' tally mid_tally
+        → Ran (Some (Script c)) (status_of e) left left' read read' written new_written wrote wrote' tally mid_tally
     ran_too_long needs keeps e new_written wrote' told =
         ran_stopped left left' written new_written read read' wrote wrote' tally mid_tally source_faults
         (let grow = told.faults in omega arith) e not_read
@@ -203,13 +203,13 @@ module _ (c : ScriptCommand) where
     pub ran_end : (new.ended ≡ true) × (lines.rest_of new ≡ []) → lines.KeepsLine old new → {A : Type 0}
         (result : Result A Stop) (new_written : Option (List ℕ)) (wrote' : ℕ)
         → EndsReading r result mid_written new_written mid_wrote wrote'
-        → Ran (Script c) (status_in result) left left' read read' written new_written wrote wrote' tally mid_tally
+        → Ran (Some (Script c)) (status_in result) left left' read read' written new_written wrote wrote' tally mid_tally
     ran_end at keeps (Ok x) new_written wrote' ends = record {
       whole = λ low. finished left written new_written tally mid_tally 0
           (subst (λ w. FinishesRequests c left written w tally mid_tally 0) (sym ends.ok.1) (finishes_well c old new
           r left mid left' written mid_written tally mid_tally far bytes ended still here over
           ends.ok.0));
-      end = λ is. over;
+      end = λ is reads. over;
       read_fault = λ is. absurd (omega arith);
       write_fault = λ is. absurd (omega arith);
       answers = λ is. absurd (omega arith);
@@ -254,10 +254,10 @@ module _ (c : ScriptCommand) where
     -- the source failed
     pub ran_failed : new.ended ≡ false → lines.HasNoNewline (lines.rest_of new) → (length new.pulled ≡ 1048577 → ⊥)
         → lines.KeepsLine old new → Rose read read'
-        → Ran (Script c) 3 left left' read read' written mid_written wrote mid_wrote tally mid_tally
+        → Ran (Some (Script c)) 3 left left' read read' written mid_written wrote mid_wrote tally mid_tally
     ran_failed going none full keeps rose = record {
       whole = λ low. absurd (elim low [ inl two ↦ omega arith | inr six ↦ omega arith ]);
-      end = λ is. absurd (elim is [ inl none ↦ omega arith | inr six ↦ omega arith ]);
+      end = λ is reads. absurd (elim is [ inl none ↦ omega arith | inr six ↦ omega arith ]);
       read_fault = λ is. rose;
       write_fault = λ is. absurd (omega arith);
       answers = λ is. answers_lines c old new r left mid left' written mid_written tally mid_tally far bytes ended still

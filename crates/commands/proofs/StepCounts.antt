@@ -6,8 +6,8 @@ use Rattle.script.specs.Requests.{precision_of}
 use Rattle.script.specs.Script.{Has}
 use Rattle.commands.specs.declared.reading.Reading.{Reading}
 use Rattle.commands.specs.declared.reading.Reading.TheVariants.{Begun, Factors, Inputs}
-use Rattle.commands.specs.declared.words.ScriptCommand.{ScriptCommand}
-use Rattle.commands.specs.declared.words.ScriptCommand.TheVariants.{Factor, Expand}
+use Rattle.commands.specs.declared.command.ScriptCommand.{ScriptCommand}
+use Rattle.commands.specs.declared.command.ScriptCommand.TheVariants.{Factor, Expand}
 use Rattle.commands.specs.Lines.{Accounts, spent_of}
 use Rattle.commands.specs.Output.{Asked, degrees_of, roots_in, steps_of}
 

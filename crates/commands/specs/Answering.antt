@@ -13,7 +13,7 @@ use Rattle.ps_model.specs.declared.job.JobData.{JobData}
 use Rattle.script.specs.Answers.{Item, Outcome, IsWritten}
 use Rattle.script.specs.Script.{State, Does}
 use Rattle.script.specs.declared.request.Request.{Request}
-use Rattle.commands.specs.declared.words.ScriptCommand.{ScriptCommand}
+use Rattle.commands.specs.declared.command.ScriptCommand.{ScriptCommand}
 use Rattle.commands.specs.declared.stop.Stop.{Stop}
 use Rattle.commands.specs.declared.stop.Stop.TheVariants as stop
 use Rattle.commands.specs.Calls.{WritesBeginning}

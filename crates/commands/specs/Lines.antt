@@ -24,8 +24,8 @@ use Rattle.commands.specs.declared.reading.Reading.{Reading}
 use Rattle.commands.specs.declared.reading.Reading.TheVariants.{Begun, Factors, Inputs}
 use Rattle.commands.specs.declared.stop.Stop.{Stop}
 use Rattle.commands.specs.declared.stop.Stop.TheVariants.{Refused, ReadFault, WriteFault, OutOfMemory}
-use Rattle.commands.specs.declared.words.ScriptCommand.{ScriptCommand}
-use Rattle.commands.specs.declared.words.ScriptCommand.TheVariants.{Factor, Expand}
+use Rattle.commands.specs.declared.command.ScriptCommand.{ScriptCommand}
+use Rattle.commands.specs.declared.command.ScriptCommand.TheVariants.{Factor, Expand}
 use Rattle.commands.specs.Answering.{AreOnly, MayBe}
 use Rattle.commands.specs.Calls.{WritesBeginning}
 use Rattle.commands.specs.Output.{Asked, degrees_of, steps_of}

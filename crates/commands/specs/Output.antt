@@ -5,9 +5,11 @@
 --     steps_of c asked      the steps of the requests: of each root one for each of these degrees
 --     IsEnd after text status      what is written where the input ends in the state, and the status
 --     IsWhole c input text status asked      what is written for a whole input
---     IsOutput command input text status steps      the same of the program's words, by the command that they name:
---         for `check` what is told of all lines and the end behind them; of refused words the input doesn't count
+--     IsOutput work input text status steps      the same of the program's words, by what is done for them: for
+--         `check` what is told of all lines and the end behind them; for `demo` the text of the number, for which, as
+--         for refused words, the input doesn't count
 use Rattle.std.specs.Prelude.{◌≡◌, ℕ, suc, ◌*◌, max, true, List, [], ◌∷◌, ◌++◌, length, Option, Some, None}
+use Rattle.demo.specs.DemoText.{IsDemoText}
 use Rattle.script.specs.Answers.{Item, items_of, IsWritten}
 use Rattle.script.specs.Header.{Empty}
 use Rattle.script.specs.Refusals.{end_refused}
@@ -15,13 +17,12 @@ use Rattle.script.specs.Requests.{precision_of}
 use Rattle.script.specs.Script.{State, Begun, Has, Does, missing}
 use Rattle.script.specs.declared.refusal.Refusal.{Refusal}
 use Rattle.script.specs.declared.request.Request.{Request}
-use Rattle.commands.specs.declared.words.Command.{Command}
-use Rattle.commands.specs.declared.words.Command.TheVariants as command
-use Rattle.commands.specs.declared.words.ScriptCommand.{ScriptCommand}
-use Rattle.commands.specs.declared.words.ScriptCommand.TheVariants.{Factor, Expand}
+use Rattle.commands.specs.declared.command.ScriptCommand.{ScriptCommand}
+use Rattle.commands.specs.declared.command.ScriptCommand.TheVariants.{Factor, Expand}
 use Rattle.commands.specs.Checks.{IsChecked}
 use Rattle.commands.specs.Replies.{Answers}
-use Rattle.commands.specs.Words.{takes_streams, usage_line}
+use Rattle.commands.specs.Words.{Work, takes_streams, usage_line}
+use Rattle.commands.specs.Words as work
 
 abbrev pub Asked : Type 0
 Asked = List (State × Request)
@@ -61,8 +62,9 @@ pub record IsWhole (c : ScriptCommand) (input text : List ℕ) (status : ℕ) (a
   pub of_end : IsEnd after end status
   pub text_is : text ≡ lines ++ end
 
-abbrev pub IsOutput : Option Command → List ℕ → List ℕ → ℕ → ℕ → Type 0
+abbrev pub IsOutput : Option Work → List ℕ → List ℕ → ℕ → ℕ → Type 0
 IsOutput None input text status steps = (text ≡ usage_line) × (status ≡ 2) × (steps ≡ 0)
-IsOutput (Some (command.Script c)) input text status steps =
+IsOutput (Some (work.Script c)) input text status steps =
     (asked : Asked) × IsWhole c input text status asked × (steps ≡ steps_of c asked)
-IsOutput (Some command.Check) input text status steps = IsChecked true input text status steps
+IsOutput (Some work.Check) input text status steps = IsChecked true input text status steps
+IsOutput (Some (work.Demo n)) input text status steps = IsDemoText n text × (status ≡ 0) × (steps ≡ 164)

@@ -17,8 +17,8 @@ use Rattle.ps_model.specs.Value.{IsValue}
 use Rattle.script.specs.Script.{State, Begun, Has}
 use Rattle.script.specs.declared.request.Request.{Request}
 use Rattle.script.specs.declared.request.Request.TheVariants.{Show, Stream}
-use Rattle.commands.specs.declared.words.ScriptCommand.{ScriptCommand}
-use Rattle.commands.specs.declared.words.ScriptCommand.TheVariants.{Factor, Expand}
+use Rattle.commands.specs.declared.command.ScriptCommand.{ScriptCommand}
+use Rattle.commands.specs.declared.command.ScriptCommand.TheVariants.{Factor, Expand}
 
 abbrev pub IsBlock : List (List ℕ) → JobData → ℕ → List ℕ → Type 0
 IsBlock names job D text =

@@ -1,24 +1,41 @@
--- The words of the command line.
---     command_in words      the command that they name, None of refused words
+-- What the program does for the words of the command line.
+--     Work      the requests of a script are answered, as its command does, a block is judged, or the job of a number
+--         is summed up
+--     work_of command      what is done for a command, None where it is refused: for now those that ask for a pipeline
+--         are. How many threads raise the factors in rounds is no part of it
+--     work_in words      what is done for the words, None of refused words
+--     is_reading work      whether the input counts
 --     takes_streams c      whether a script of the command may ask for streams
 --     usage_line      what is written for refused words
-use Rattle.std.specs.Prelude.{ℕ, if◌then◌else◌, Bool, true, false, List, [], ◌∷◌, codes, Option, Some, None}
-use Rattle.std.specs.Str.{bytes_eq}
-use Rattle.commands.specs.declared.words.Command.{Command}
-use Rattle.commands.specs.declared.words.Command.TheVariants.{Script, Check}
-use Rattle.commands.specs.declared.words.ScriptCommand.{ScriptCommand}
-use Rattle.commands.specs.declared.words.ScriptCommand.TheVariants.{Factor, Expand}
+use Rattle.std.specs.Prelude.{ℕ, Bool, true, false, List, codes, Option, Some, None, option_and_then}
+use Rattle.words.specs.Rules.{command_in}
+use Rattle.words.specs.declared.command.Command.{Command}
+use Rattle.words.specs.declared.command.Command.TheVariants as command
+use Rattle.words.specs.declared.command.Workers.TheVariants.{One, Rounds, Pipeline}
+use Rattle.commands.specs.declared.command.ScriptCommand.{ScriptCommand}
+use Rattle.commands.specs.declared.command.ScriptCommand.TheVariants.{Factor, Expand}
 
-abbrev pub command_of_word : List ℕ → Option Command
-command_of_word w =
-    if bytes_eq w (codes "factor") then Some (Script Factor)
-    else (if bytes_eq w (codes "expand") then Some (Script Expand)
-    else (if bytes_eq w (codes "check") then Some Check else None))
+pub data Work : Type 0 where
+  Script : ScriptCommand → Work
+  Check : Work
+  Demo : ℕ → Work
 
-abbrev pub command_in : List (List ℕ) → Option Command
-command_in [] = None
-command_in (w ∷ []) = command_of_word w
-command_in (w ∷ v ∷ more) = None
+abbrev pub work_of : Command → Option Work
+work_of (command.Factor One) = Some (Script Factor)
+work_of (command.Factor (Rounds n)) = Some (Script Factor)
+work_of (command.Factor (Pipeline n)) = None
+work_of command.Expand = Some (Script Expand)
+work_of command.Check = Some Check
+work_of (command.Demo n) = Some (Demo n)
+
+abbrev pub work_in : List (List ℕ) → Option Work
+work_in words = option_and_then work_of (command_in words)
+
+abbrev pub is_reading : Option Work → Bool
+is_reading None = false
+is_reading (Some (Script c)) = true
+is_reading (Some Check) = true
+is_reading (Some (Demo n)) = false
 
 abbrev pub takes_streams : ScriptCommand → Bool
 takes_streams Factor = true

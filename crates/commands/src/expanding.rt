@@ -44,7 +44,7 @@ impl Expanding {
     ghost use Rattle.script.specs.Script.{Has};
     ghost use Rattle.script.specs.declared.request.Request.TheVariants.{Show};
     ghost use Rattle.session.specs.Precisions.{weights_in};
-    ghost use Rattle.commands.specs.declared.words.ScriptCommand.TheVariants.{Expand};
+    ghost use Rattle.commands.specs.declared.command.ScriptCommand.TheVariants.{Expand};
     ghost use Rattle.commands.specs.Answering.{Answered};
 
     /// Of the input nothing is known yet.

@@ -1,6 +1,9 @@
 //! What answers the requests of `factor`.
-ghost use Rattle.std.specs.Prelude.{◌≡◌};
+ghost use Rattle.std.specs.Prelude.{◌≡◌, ◌+◌, ◌^◌, ◌≤◌, IfSome, OnOk};
+ghost use Rattle.parts.specs.JobRows.{IsPermitted};
 ghost use Rattle.script.specs.Requests.{precision_of as precision_in};
+ghost use Rattle.session.specs.Calls.{IsRaised, IsWithin, KeepsSession, prepared_degrees};
+ghost use Rattle.session.specs.Precisions.{weights_in};
 
 use crate::stop::Stop;
 use crate::streams::write_answer;
@@ -8,12 +11,14 @@ use intake::Job;
 use parts::Ring;
 use ports::Sink;
 use prepare::Tally;
+use ps_model::OutOfMemory;
 use rows::OwnRow;
 use script::Request;
 use session::{Session, SessionView};
 use stages::StageItem;
 use std::alloc::Global;
 use std::marker::Model;
+use std::thread::Threads;
 
 /// A job whose factors answer requests.
 #[derive(Drop)]
@@ -35,14 +40,14 @@ impl Model for Factoring {
 }
 
 impl Factoring {
-    ghost use Rattle.std.specs.Prelude.{◌≡◌, ◌+◌, ◌*◌, ◌^◌, ◌≤◌, max, suc, length, IfOk, IfErr};
+    ghost use Rattle.std.specs.Prelude.{◌≡◌, ◌+◌, ◌*◌, ◌^◌, ◌≤◌, max, suc, length, IfOk, IfErr, IfSome};
     ghost use Rattle.parts.specs.JobRows.{IsPermitted, IsRingOf};
     ghost use Rattle.ps_model.specs.AcceptedJob.{IsAccepted};
     ghost use Rattle.script.specs.Requests.{precision_of};
     ghost use Rattle.script.specs.Script.{Has};
     ghost use Rattle.session.specs.Precisions.{weights_in};
     ghost use Rattle.commands.specs.declared.stop.Stop.TheVariants.{OutOfMemory as NoMemory};
-    ghost use Rattle.commands.specs.declared.words.ScriptCommand.TheVariants.{Factor};
+    ghost use Rattle.commands.specs.declared.command.ScriptCommand.TheVariants.{Factor};
     ghost use Rattle.commands.specs.Answering.{Answered};
 
     /// Of the factors nothing is known yet. It takes the memory of their rows.
@@ -65,16 +70,20 @@ impl Factoring {
         self.session.ring()
     }
 
-    /// Answers a request: raises the factors to its precision, and writes them.
+    /// Answers a request: raises the factors to its precision, in rounds of up to so many threads or on
+    /// this thread alone, and writes them.
     ///
     /// Each degree that is prepared ticks once, of each root. On an error a beginning of the answer is
     /// written at most.
     pub fn answer<K: Sink>(
         self,
+        rt: &(impl Threads + Sync),
+        rounds: Option<u32>,
         request: Request,
         sink: &mut K,
         tally: &mut Tally,
     ) -> Result<Factoring, Stop>
+        requires rounds { IfSome rounds (λ n. (1 ≤ n) × (n ≤ 64)) }
         requires permitted { IsPermitted (weights_in self.job) (precision_of request) }
         requires tally { tally.old ≤ 2 ^ 61 }
         ensures next { IfOk result (λ f.
@@ -88,9 +97,37 @@ impl Factoring {
             ≤ tally.old + length self.job.roots * max (suc (precision_of request)) self.degrees }
     {
         let Factoring { mut session } = self;
-        session.raise(precision_of(request), tally)?;
+        raise(rt, &mut session, rounds, precision_of(request), tally)?;
         write_answer(sink, &session, request)?;
         Ok(Factoring { session })
+    }
+}
+
+/// Raises a session to a degree, in rounds of up to so many threads or on this thread alone.
+fn raise(
+    rt: &(impl Threads + Sync),
+    session: &mut Session<OwnRow<StageItem>>,
+    rounds: Option<u32>,
+    to: u32,
+    tally: &mut Tally,
+) -> Result<(), OutOfMemory>
+    requires rounds { IfSome rounds (λ n. (1 ≤ n) × (n ≤ 64)) }
+    requires permitted { let state = ⟦<Session<OwnRow<StageItem>> as SessionView>⟧.state in
+        IsPermitted (weights_in (state session.old).job.job) to }
+    requires tally { tally.old ≤ 2 ^ 61 }
+    ensures kept { let state = ⟦<Session<OwnRow<StageItem>> as SessionView>⟧.state in
+        KeepsSession (state session.old) (state session.new) }
+    ensures ok { let state = ⟦<Session<OwnRow<StageItem>> as SessionView>⟧.state in
+        OnOk result (IsRaised (to + 1) (state session.old) (state session.new)) }
+    ensures within { let state = ⟦<Session<OwnRow<StageItem>> as SessionView>⟧.state in
+        IsWithin (to + 1) (state session.old) (state session.new) }
+    ensures ticks { let state = ⟦<Session<OwnRow<StageItem>> as SessionView>⟧.state in
+        tally.new + prepared_degrees (state session.old)
+        ≡ tally.old + prepared_degrees (state session.new) }
+{
+    match rounds {
+        None => session.raise(to, tally),
+        Some(workers) => session.raise_rounds(rt, to, workers, tally),
     }
 }
 

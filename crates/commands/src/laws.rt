@@ -3,8 +3,8 @@ ghost use Rattle.std.specs.Prelude.{ℕ, Bool, List, Option};
 ghost use Rattle.ps_model.specs.Bounds.{ExactlyOne};
 ghost use Rattle.script.specs.Answers.{items_of};
 ghost use Rattle.script.specs.Script.{State};
-ghost use Rattle.commands.specs.declared.words.Command.{Command};
-ghost use Rattle.commands.specs.declared.words.ScriptCommand.{ScriptCommand};
+ghost use Rattle.commands.specs.Words.{Work};
+ghost use Rattle.commands.specs.declared.command.ScriptCommand.{ScriptCommand};
 ghost use Rattle.commands.specs.Checks.{IsChecked};
 ghost use Rattle.commands.specs.Output.{Asked, AreAnswers, IsOutput};
 
@@ -17,6 +17,6 @@ pub fn output_laws()
         (λ w. AreAnswers c (items_of ended bytes) w.0 w.1 w.2) }
     ensures checks { (ended : Bool) (bytes : List ℕ) →
         ExactlyOne {A = List ℕ × ℕ × ℕ} (λ w. IsChecked ended bytes w.0 w.1 w.2) }
-    ensures output { (command : Option Command) (input : List ℕ) →
-        ExactlyOne {A = List ℕ × ℕ × ℕ} (λ w. IsOutput command input w.0 w.1 w.2) }
+    ensures output { (work : Option Work) (input : List ℕ) →
+        ExactlyOne {A = List ℕ × ℕ × ℕ} (λ w. IsOutput work input w.0 w.1 w.2) }
 {}

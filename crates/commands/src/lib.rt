@@ -1,7 +1,7 @@
 //! What the program does with its words, its input and its output, from bytes to bytes.
 #![tactic(auto)]
 
-mod words;
+mod command;
 
 // why a run ends
 mod stop;
@@ -23,5 +23,5 @@ mod program;
 mod reading;
 mod refusing;
 
+pub use command::ScriptCommand;
 pub use program::run;
-pub use words::{Command, ScriptCommand};

@@ -1,24 +1,25 @@
 //! Scripts, line by line.
-ghost use Rattle.std.specs.Prelude.{◌≡◌, ◌+◌, ◌*◌, ◌^◌, ◌≤◌, ℕ, false, length, [], IfOk, IfErr};
+ghost use Rattle.std.specs.Prelude.{◌≡◌, ◌+◌, ◌*◌, ◌^◌, ◌≤◌, ℕ, false, length, [], IfOk, IfErr, IfSome};
 ghost use Rattle.ps_model.specs.AcceptedJob.{IsAccepted};
 ghost use Rattle.script.specs.Header.{Empty as NothingRead};
 ghost use Rattle.script.specs.Script.{Begun as BegunWith};
 ghost use Rattle.script.specs.Words.{is_skipped as is_skipped_line};
-ghost use Rattle.commands.specs.declared.words.ScriptCommand.{ScriptCommand as CommandOf};
-ghost use Rattle.commands.specs.declared.words.ScriptCommand.TheVariants.{Factor, Expand};
+ghost use Rattle.commands.specs.declared.command.ScriptCommand.{ScriptCommand as CommandOf};
+ghost use Rattle.commands.specs.declared.command.ScriptCommand.TheVariants.{Factor, Expand};
 ghost use Rattle.commands.specs.declared.stop.Stop.TheVariants.{OutOfMemory as NoMemory};
 ghost use Rattle.commands.specs.Lines.{Accounts, AnswersLine, EndsReading, IsOpened, IsReading, state_in};
 
+use crate::command::ScriptCommand;
 use crate::expanding::Expanding;
 use crate::factoring::{Factoring, precision_of};
 use crate::refusing::{refuse_end, refuse_line};
 use crate::stop::Stop;
-use crate::words::ScriptCommand;
 use intake::Job;
 use ports::Sink;
 use prepare::Tally;
 use script::{Header, Refusal, Refused, Said, is_skipped, request_of};
 use std::alloc::Global;
+use std::thread::Threads;
 
 /// The most bytes of a line of a script.
 pub(crate) const LONGEST_LINE: usize = 65536;
@@ -41,17 +42,21 @@ impl Reading {
         Reading::Begun(Header::new(alloc))
     }
 
-    /// Reads the next line, which has this number, and answers it where it is a request.
+    /// Reads the next line, which has this number, and answers it where it is a request. Factors are
+    /// raised in rounds of up to so many threads, or on this thread alone.
     pub fn line<K: Sink>(
         self,
+        rt: &(impl Threads + Sync),
         alloc: Global,
         command: ScriptCommand,
+        rounds: Option<u32>,
         line: &[u8],
         number: u32,
         sink: &mut K,
         tally: &mut Tally,
     ) -> Result<Reading, Stop>
         requires reading { IsReading command self }
+        requires rounds { IfSome rounds (λ n. (1 ≤ n) × (n ≤ 64)) }
         requires tally { tally.old ≤ 2 ^ 61 }
         ensures { AnswersLine command self line.now number result (K.written sink.old) (K.written sink.new)
             (K.faults sink.old) (K.faults sink.new) tally.old tally.new }
@@ -65,7 +70,7 @@ impl Reading {
         match self {
             Reading::Begun(header) => read_header(alloc, command, header, line, number, sink),
             Reading::Factors(factoring) => {
-                answer_factors(alloc, factoring, line, number, sink, tally)
+                answer_factors(rt, alloc, factoring, rounds, line, number, sink, tally)
             }
             Reading::Inputs(expanding) => answer_inputs(alloc, expanding, line, number, sink),
         }
@@ -122,8 +127,10 @@ fn open(alloc: Global, command: ScriptCommand, job: Job) -> Result<Reading, Stop
 
 /// Answers a request of `factor`.
 fn answer_factors<K: Sink>(
+    rt: &(impl Threads + Sync),
     alloc: Global,
     factoring: Factoring,
+    rounds: Option<u32>,
     line: &[u8],
     number: u32,
     sink: &mut K,
@@ -132,12 +139,13 @@ fn answer_factors<K: Sink>(
     requires short { length line.now ≤ 65536 }
     requires read { is_skipped_line line.now ≡ false }
     requires small { IsReading Factor (Reading.Factors factoring) }
+    requires rounds { IfSome rounds (λ n. (1 ≤ n) × (n ≤ 64)) }
     requires tally { tally.old ≤ 2 ^ 61 }
     ensures { AnswersLine Factor (Reading.Factors factoring) line.now number result (K.written sink.old)
         (K.written sink.new) (K.faults sink.old) (K.faults sink.new) tally.old tally.new }
 {
     match request_of(factoring.ring(), true, line) {
-        Ok(request) => Ok(Reading::Factors(factoring.answer(request, sink, tally)?)),
+        Ok(request) => Ok(Reading::Factors(factoring.answer(rt, rounds, request, sink, tally)?)),
         Err(refusal) => Err(refuse_line(alloc, sink, number, refusal)),
     }
 }

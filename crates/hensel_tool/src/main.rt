@@ -3,10 +3,11 @@
 #![tactic(auto)]
 
 // the words of the command line
+mod arguments;
 #[cfg(test)]
 mod tests;
-mod words;
 
+use arguments::words_after_name;
 pub use commands::run;
 use ports::{StdSink, StdSource};
 use prepare::Tally;
@@ -14,7 +15,6 @@ use ps_model::OutOfMemory;
 use std::env::{self, Env};
 use std::io::ErrorKind;
 use std::process::ExitCode;
-use words::words_after_name;
 
 /// The status of a program that has no memory for its words.
 const OUT_OF_MEMORY: u8 = 5;

@@ -32,7 +32,7 @@ fn words_of(alloc: Global, words: &[&str]) -> Result<Vec<String>, Fail> {
 
 /// Runs the program, and compares the text, the status and the steps.
 fn assert_run<S: Source>(
-    rt: &(impl Abort + Threads),
+    rt: &(impl Abort + Threads + Sync),
     alloc: Global,
     words: &[&str],
     source: &mut S,
@@ -52,7 +52,7 @@ fn assert_run<S: Source>(
 
 /// Runs a command on a script that is read whole, with room for the text.
 fn assert_script(
-    rt: &(impl Abort + Threads),
+    rt: &(impl Abort + Threads + Sync),
     alloc: Global,
     command: &str,
     script: &[u8],
@@ -120,15 +120,40 @@ fn an_input_past_the_limit_is_refused(rt: HostRuntime) -> Result<(), Fail> {
     assert_script(&rt, alloc, "factor", &script, (text, 1, 0))
 }
 
+#[test]
+fn factors_are_raised_in_rounds(rt: HostRuntime) -> Result<(), Fail> {
+    let alloc = rt.alloc();
+    let script = b"mod 101\nvars x y\npoly Y*(Y-1)*(Y-2) + x + y*Y\nroots 0:1 1:1 2:1\nshow 1\n";
+    let text =
+        b"precision 1\nfactor 1 root 0 times 1\nY^1: 1\nY^0: 51*x\nfactor 2 root 1 times 1\nY^1: 1\nY^0: 100 + 100*x + 100*y\nfactor 3 root 2 times 1\nY^1: 1\nY^0: 99 + 51*x + 1*y\n";
+    let cases: [&[&str]; 4] = [
+        &["factor"],
+        &["factor", "--rounds", "1"],
+        &["factor", "--rounds", "3"],
+        &["factor", "--rounds=64"],
+    ];
+    for words in cases {
+        let mut source = CalmSource::new(Vec::from_slice(alloc, script)?);
+        let sink = MemorySink::new(alloc, 4096, 4096)?;
+        let want: (&[u8], u8, u64) = (text, 0, 6);
+        assert_run(&rt, alloc, words, &mut source, sink, want, "rounds")?;
+    }
+    Ok(())
+}
+
 // The first pull would fail, and isn't made.
 #[test]
 fn refused_words_pull_nothing(rt: HostRuntime) -> Result<(), Fail> {
     let alloc = rt.alloc();
-    let cases: [&[&str]; 4] = [
+    let cases: [&[&str]; 8] = [
         &[],
         &["factor", "now"],
-        &["factor", "--rounds", "2"],
         &["facto"],
+        &["factor", "--rounds", "0"],
+        &["factor", "--workers", "0"],
+        &["factor", "--workers", "2"],
+        &["factor", "--rounds", "2", "--workers", "2"],
+        &["demo", "18446744073709551616"],
     ];
     for words in cases {
         let mut source = MemorySource::new(Vec::new(alloc), Vec::from_slice(alloc, &[1])?);
@@ -275,7 +300,7 @@ const HEADER: &[u8] = b"mod 101\nvars x\npoly Y^2 + x*Y + 1\nroots 10:1 -10:1\nb
 
 /// Runs `check` on the header, behind which these lines stand.
 fn assert_check(
-    rt: &(impl Abort + Threads),
+    rt: &(impl Abort + Threads + Sync),
     alloc: Global,
     block: &[u8],
     want: (&[u8], u8, u64),

@@ -1,2 +1,2 @@
-mod EmptyRows
 pub mod Permitted
+pub mod Published

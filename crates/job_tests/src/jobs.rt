@@ -1,5 +1,5 @@
 //! Jobs of expressions: the factors that a line of stages finds from their rows.
-ghost use Rattle.std.specs.Prelude.{◌≡◌, ◌<◌, ◌≤◌, ℕ, [], length, map, replicate, IfOk, slice_get, Some};
+ghost use Rattle.std.specs.Prelude.{◌≡◌, ◌<◌, ◌≤◌, length, IfOk};
 ghost use Rattle.std.specs.Arc.{arc_value};
 ghost use Rattle.std.specs.List.{All};
 ghost use Rattle.ps_model.specs.AcceptedJob.{IsAccepted, IsAcceptedRoot, AreWeights};
@@ -14,7 +14,7 @@ use prepare::Tally;
 use ps_model::{JobData, NameView, OutOfMemory, Root};
 use residue::Modulus;
 use rows::{OwnRow, RowOut};
-use stages::{Line, LineView, StageItem, StageTitle};
+use stages::{Line, LineView, StageItem, empty_rows};
 use std::alloc::Global;
 use std::process::Abort;
 use std::sync::Arc;
@@ -84,6 +84,50 @@ fn weights_of(names: u32, second: u16) -> Result<[u16; 8], Fail>
     Ok([1, second, 1, 1, 1, 1, 1, 1])
 }
 
+/// The job of Y^2 + x*Y + 1 modulo 101, whose roots at the origin are 10 and 91.
+pub fn job_of_two(alloc: Global) -> Result<Job, Fail>
+    ensures { IfOk result (λ job. IsAccepted job.job) }
+{
+    let none = Raise {
+        to: 0,
+        steps: 0,
+        lines: "",
+    };
+    job_of(
+        alloc,
+        &Case {
+            modulus: 101,
+            names: &["x"],
+            second_weight: 1,
+            polynomial: b"Y^2 + x*Y + 1",
+            roots: &[(10, 1), (91, 1)],
+            raises: [none; 3],
+        },
+    )
+}
+
+/// The job of Y + x modulo 7, whose root at the origin is 0.
+pub fn job_of_one(alloc: Global) -> Result<Job, Fail>
+    ensures { IfOk result (λ job. IsAccepted job.job) }
+{
+    let none = Raise {
+        to: 0,
+        steps: 0,
+        lines: "",
+    };
+    job_of(
+        alloc,
+        &Case {
+            modulus: 7,
+            names: &["x"],
+            second_weight: 1,
+            polynomial: b"Y + x",
+            roots: &[(0, 1)],
+            raises: [none; 3],
+        },
+    )
+}
+
 /// The job of a case.
 fn job_of(alloc: Global, case: &Case<'_>) -> Result<Job, Fail>
     ensures { IfOk result (λ job. IsAccepted job.job) }
@@ -102,30 +146,7 @@ fn job_of(alloc: Global, case: &Case<'_>) -> Result<Job, Fail>
     Ok(Job::make(alloc, modulus, names, weights, tree, roots)?)
 }
 
-/// An empty row for each stage of a job, with room up to degree 7.
-fn empty_rows(alloc: Global, job: &Arc<JobData>) -> Result<Vec<OwnRow<StageItem>>, OutOfMemory>
-    requires few { length (arc_value job.now).roots ≤ 32 }
-    ensures count { IfOk result (λ rows. length rows.items ≡ length (arc_value job.now).roots) }
-    ensures empty { IfOk result (λ rows. (s : ℕ) (row : _) → slice_get rows.items s ≡ Some row →
-        ⟦<OwnRow<StageItem> as RowOut<StageItem>>⟧.items row ≡ []) }
-    ensures titles { IfOk result (λ rows. (s : ℕ) (row : _) → slice_get rows.items s ≡ Some row →
-        ⟦<OwnRow<StageItem> as RowOut<StageItem>>⟧.title row
-        ≡ record { job = arc_value job.now; stage = s }) }
-    ensures capacities { IfOk result (λ rows.
-        map ⟦<OwnRow<StageItem> as RowOut<StageItem>>⟧.capacity rows.items
-        ≡ replicate (length (arc_value job.now).roots) 8) }
-{
-    let mut rows = Vec::new(alloc);
-    for stage in 0..job.roots.len() as u32 {
-        let title = StageTitle {
-            job: Arc::try_clone(job)?,
-            stage,
-        };
-        rows.push(OwnRow::new(alloc, title, 8)?)?;
-    }
-    Ok(rows)
-}
-
+/// A line of a job, with room up to degree 7.
 fn line_of(
     alloc: Global,
     ring: Ring,
@@ -138,7 +159,7 @@ fn line_of(
     ensures room { IfOk result (λ line.
         HaveRoom 7 (⟦<Line<OwnRow<StageItem>> as LineView>⟧.states line)) }
 {
-    let rows = empty_rows(alloc, job)?;
+    let rows = empty_rows(alloc, job, 8)?;
     match Line::new(alloc, ring, Arc::try_clone(job)?, rows) {
         Ok(line) => Ok(line),
         Err((refusal, _rows)) => Err(refusal),
@@ -157,7 +178,12 @@ fn push_powers(alloc: Global, text: &mut String, names: &[&str], at: Monomial) -
 }
 
 /// Writes the terms of a part behind others, each with `+` before it.
-fn push_part(alloc: Global, text: &mut String, names: &[&str], part: &Part) -> Result<(), Fail> {
+pub fn push_part(
+    alloc: Global,
+    text: &mut String,
+    names: &[&str],
+    part: &Part,
+) -> Result<(), Fail> {
     for term in part.terms() {
         text.push_str(format!(in alloc; " + {}", term.coefficient)?.as_str())?;
         push_powers(alloc, text, names, term.monomial)?;
@@ -306,109 +332,139 @@ fn assert_case(rt: &impl Abort, alloc: Global, case: &Case<'_>) -> Result<(), Fa
 // By hand: the powers of a quotient are those of a geometric series, 1/2 is 51 and 1/8 is 38 modulo
 // 101, and the square root of 1 - u is 1 - u/2 - u^2/8 - ..
 #[test]
-fn factors_of_jobs(rt: HostRuntime) -> Result<(), Fail> {
-    let cases = [
-        Case {
-            modulus: 101,
-            names: &["x"],
-            second_weight: 1,
-            polynomial: b"Y^2 + x*Y + 1",
-            roots: &[(10, 1), (91, 1)],
-            raises: [Raise {
-                to: 2,
-                steps: 6,
-                lines: "1 Y^0: + 91 + 51*x^1 + 77*x^2\n1 Y^1: + 1\n2 Y^0: + 10 + 51*x^1 + 24*x^2\n2 Y^1: + 1\n",
-            }; 3],
-        },
-        Case {
-            modulus: 7,
-            names: &["x"],
-            second_weight: 1,
-            polynomial: b"Y^2 - 1/(1-x)",
-            roots: &[(1, 1), (6, 1)],
-            raises: [Raise {
-                to: 2,
-                steps: 6,
-                lines: "1 Y^0: + 6 + 3*x^1 + 4*x^2\n1 Y^1: + 1\n2 Y^0: + 1 + 4*x^1 + 3*x^2\n2 Y^1: + 1\n",
-            }; 3],
-        },
-        Case {
-            modulus: 101,
-            names: &["x", "y"],
-            second_weight: 1,
-            polynomial: b"Y*(Y-1)*(Y-2) + x + y*Y",
-            roots: &[(0, 1), (1, 1), (2, 1)],
-            raises: [Raise {
-                to: 1,
-                steps: 6,
-                lines: "1 Y^0: + 51*x^1\n1 Y^1: + 1\n2 Y^0: + 100 + 100*x^1 + 100*y^1\n2 Y^1: + 1\n3 Y^0: + 99 + 51*x^1 + 1*y^1\n3 Y^1: + 1\n",
-            }; 3],
-        },
-        Case {
-            modulus: 101,
-            names: &["x", "y"],
-            second_weight: 2,
-            polynomial: b"Y*(Y-1)*(Y-2) + x + y*Y",
-            roots: &[(0, 1), (1, 1), (2, 1)],
-            raises: [Raise {
-                to: 1,
-                steps: 6,
-                lines: "1 Y^0: + 51*x^1\n1 Y^1: + 1\n2 Y^0: + 100 + 100*x^1\n2 Y^1: + 1\n3 Y^0: + 99 + 51*x^1\n3 Y^1: + 1\n",
-            }; 3],
-        },
-        Case {
-            modulus: 7,
-            names: &["x"],
-            second_weight: 1,
-            polynomial: b"(2+x)*Y^2 + x",
-            roots: &[(0, 2)],
-            raises: [Raise {
-                to: 2,
-                steps: 3,
-                lines: "1 Y^0: + 4*x^1 + 5*x^2\n1 Y^1:\n1 Y^2: + 1\n",
-            }; 3],
-        },
-        Case {
-            modulus: 101,
-            names: &["a", "b", "c", "d", "e", "f", "g", "h"],
-            second_weight: 1,
-            polynomial: b"Y^2 - 1 + a + b*c + h^2",
-            roots: &[(1, 1), (100, 1)],
-            raises: [Raise {
-                to: 2,
-                steps: 6,
-                lines: "1 Y^0: + 100 + 51*a^1 + 38*a^2 + 51*b^1*c^1 + 51*h^2\n1 Y^1: + 1\n2 Y^0: + 1 + 50*a^1 + 63*a^2 + 50*b^1*c^1 + 50*h^2\n2 Y^1: + 1\n",
-            }; 3],
-        },
-        Case {
-            modulus: 7,
-            names: &["x"],
-            second_weight: 1,
-            polynomial: b"Y + x/(1 + 1/(1-x))",
-            roots: &[(0, 1)],
-            raises: [Raise {
-                to: 3,
-                steps: 4,
-                lines: "1 Y^0: + 4*x^1 + 5*x^2 + 6*x^3\n1 Y^1: + 1\n",
-            }; 3],
-        },
-        Case {
-            modulus: 15,
-            names: &["x"],
-            second_weight: 1,
-            polynomial: b"Y^2 - Y + x",
-            roots: &[(0, 1), (1, 1)],
-            raises: [Raise {
-                to: 4,
-                steps: 10,
-                lines: "1 Y^0: + 14*x^1 + 14*x^2 + 13*x^3 + 10*x^4\n1 Y^1: + 1\n2 Y^0: + 14 + 1*x^1 + 1*x^2 + 2*x^3 + 5*x^4\n2 Y^1: + 1\n",
-            }; 3],
-        },
-    ];
-    for case in &cases {
-        assert_case(&rt, rt.alloc(), case)?;
-    }
-    Ok(())
+fn two_roots(rt: HostRuntime) -> Result<(), Fail> {
+    let case = Case {
+        modulus: 101,
+        names: &["x"],
+        second_weight: 1,
+        polynomial: b"Y^2 + x*Y + 1",
+        roots: &[(10, 1), (91, 1)],
+        raises: [Raise {
+            to: 2,
+            steps: 6,
+            lines: "1 Y^0: + 91 + 51*x^1 + 77*x^2\n1 Y^1: + 1\n2 Y^0: + 10 + 51*x^1 + 24*x^2\n2 Y^1: + 1\n",
+        }; 3],
+    };
+    assert_case(&rt, rt.alloc(), &case)
+}
+
+#[test]
+fn a_division(rt: HostRuntime) -> Result<(), Fail> {
+    let case = Case {
+        modulus: 7,
+        names: &["x"],
+        second_weight: 1,
+        polynomial: b"Y^2 - 1/(1-x)",
+        roots: &[(1, 1), (6, 1)],
+        raises: [Raise {
+            to: 2,
+            steps: 6,
+            lines: "1 Y^0: + 6 + 3*x^1 + 4*x^2\n1 Y^1: + 1\n2 Y^0: + 1 + 4*x^1 + 3*x^2\n2 Y^1: + 1\n",
+        }; 3],
+    };
+    assert_case(&rt, rt.alloc(), &case)
+}
+
+#[test]
+fn three_roots(rt: HostRuntime) -> Result<(), Fail> {
+    let case = Case {
+        modulus: 101,
+        names: &["x", "y"],
+        second_weight: 1,
+        polynomial: b"Y*(Y-1)*(Y-2) + x + y*Y",
+        roots: &[(0, 1), (1, 1), (2, 1)],
+        raises: [Raise {
+            to: 1,
+            steps: 6,
+            lines: "1 Y^0: + 51*x^1\n1 Y^1: + 1\n2 Y^0: + 100 + 100*x^1 + 100*y^1\n2 Y^1: + 1\n3 Y^0: + 99 + 51*x^1 + 1*y^1\n3 Y^1: + 1\n",
+        }; 3],
+    };
+    assert_case(&rt, rt.alloc(), &case)
+}
+
+#[test]
+fn a_variable_of_weight_2(rt: HostRuntime) -> Result<(), Fail> {
+    let case = Case {
+        modulus: 101,
+        names: &["x", "y"],
+        second_weight: 2,
+        polynomial: b"Y*(Y-1)*(Y-2) + x + y*Y",
+        roots: &[(0, 1), (1, 1), (2, 1)],
+        raises: [Raise {
+            to: 1,
+            steps: 6,
+            lines: "1 Y^0: + 51*x^1\n1 Y^1: + 1\n2 Y^0: + 100 + 100*x^1\n2 Y^1: + 1\n3 Y^0: + 99 + 51*x^1\n3 Y^1: + 1\n",
+        }; 3],
+    };
+    assert_case(&rt, rt.alloc(), &case)
+}
+
+#[test]
+fn a_lead(rt: HostRuntime) -> Result<(), Fail> {
+    let case = Case {
+        modulus: 7,
+        names: &["x"],
+        second_weight: 1,
+        polynomial: b"(2+x)*Y^2 + x",
+        roots: &[(0, 2)],
+        raises: [Raise {
+            to: 2,
+            steps: 3,
+            lines: "1 Y^0: + 4*x^1 + 5*x^2\n1 Y^1:\n1 Y^2: + 1\n",
+        }; 3],
+    };
+    assert_case(&rt, rt.alloc(), &case)
+}
+
+#[test]
+fn eight_variables(rt: HostRuntime) -> Result<(), Fail> {
+    let case = Case {
+        modulus: 101,
+        names: &["a", "b", "c", "d", "e", "f", "g", "h"],
+        second_weight: 1,
+        polynomial: b"Y^2 - 1 + a + b*c + h^2",
+        roots: &[(1, 1), (100, 1)],
+        raises: [Raise {
+            to: 2,
+            steps: 6,
+            lines: "1 Y^0: + 100 + 51*a^1 + 38*a^2 + 51*b^1*c^1 + 51*h^2\n1 Y^1: + 1\n2 Y^0: + 1 + 50*a^1 + 63*a^2 + 50*b^1*c^1 + 50*h^2\n2 Y^1: + 1\n",
+        }; 3],
+    };
+    assert_case(&rt, rt.alloc(), &case)
+}
+
+#[test]
+fn a_division_in_a_divisor(rt: HostRuntime) -> Result<(), Fail> {
+    let case = Case {
+        modulus: 7,
+        names: &["x"],
+        second_weight: 1,
+        polynomial: b"Y + x/(1 + 1/(1-x))",
+        roots: &[(0, 1)],
+        raises: [Raise {
+            to: 3,
+            steps: 4,
+            lines: "1 Y^0: + 4*x^1 + 5*x^2 + 6*x^3\n1 Y^1: + 1\n",
+        }; 3],
+    };
+    assert_case(&rt, rt.alloc(), &case)
+}
+
+#[test]
+fn a_composite_modulus(rt: HostRuntime) -> Result<(), Fail> {
+    let case = Case {
+        modulus: 15,
+        names: &["x"],
+        second_weight: 1,
+        polynomial: b"Y^2 - Y + x",
+        roots: &[(0, 1), (1, 1)],
+        raises: [Raise {
+            to: 4,
+            steps: 10,
+            lines: "1 Y^0: + 14*x^1 + 14*x^2 + 13*x^3 + 10*x^4\n1 Y^1: + 1\n2 Y^0: + 14 + 1*x^1 + 1*x^2 + 2*x^3 + 5*x^4\n2 Y^1: + 1\n",
+        }; 3],
+    };
+    assert_case(&rt, rt.alloc(), &case)
 }
 
 // The square root of 1 + u is 1 + u/2 - u^2/8 + .., here for u = x*y + x^3; to 5 it begins again at

@@ -12,3 +12,9 @@ mod job_rows;
 // `stages` over the rows of `intake`
 #[cfg(test)]
 mod jobs;
+
+// `stages` in any order, and over shared rows
+#[cfg(test)]
+mod schedules;
+#[cfg(test)]
+mod shared_lines;

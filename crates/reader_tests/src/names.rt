@@ -1,6 +1,7 @@
 use expr_reader::{NameError, Names};
 use ps_model::NameView;
 use std::alloc::Global;
+use std::process::Abort;
 use std::test::Fail;
 
 // What each call of `add` answers, with `|` behind it, and then the names.
@@ -26,39 +27,46 @@ fn push_names(all: &mut String, names: &Names) -> Result<(), Fail> {
     Ok(())
 }
 
+/// Compares what the calls of `add` answer of these texts.
+fn assert_answers(rt: &impl Abort, alloc: Global, texts: &[&str], want: &str) -> Result<(), Fail> {
+    let found = answers(alloc, texts)?;
+    assert_eq!(rt; found.as_str(), want);
+    Ok(())
+}
+
 #[test]
 fn names_are_added_or_refused(rt: HostRuntime) -> Result<(), Fail> {
-    let cases: [(&[&str], &str); 6] = [
-        (
-            &["x", "x", "Y", "1a"],
-            "0|repeats the name at position 0|bad name|bad name|x ",
-        ),
-        (
-            &["Yes", "y", "X", "x", "y"],
-            "0|1|2|3|repeats the name at position 1|Yes y X x ",
-        ),
-        (
-            &["_a", "a_", "", "a b", "a-", "a1B_2"],
-            "bad name|0|bad name|bad name|bad name|1|a_ a1B_2 ",
-        ),
-        (
-            &["ä", "aä", "Ω", "a\u{0}"],
-            "bad name|bad name|bad name|bad name|",
-        ),
-        (
-            &["abcdefghijklmnop", "abcdefghijklmnopq", "abcdefghijklmno"],
-            "0|bad name|1|abcdefghijklmnop abcdefghijklmno ",
-        ),
-        (
-            &["a", "b", "c", "d", "e", "f", "g", "h", "i", "1a", "a"],
-            "0|1|2|3|4|5|6|7|too many names|too many names|too many names|a b c d e f g h ",
-        ),
-    ];
-    for (texts, expected) in &cases {
-        let found = answers(rt.alloc(), texts)?;
-        assert_eq!(rt; found.as_str(), *expected);
-    }
-    Ok(())
+    let repeated = "0|repeats the name at position 0|bad name|bad name|x ";
+    assert_answers(&rt, rt.alloc(), &["x", "x", "Y", "1a"], repeated)?;
+    let cases = "0|1|2|3|repeats the name at position 1|Yes y X x ";
+    assert_answers(&rt, rt.alloc(), &["Yes", "y", "X", "x", "y"], cases)
+}
+
+#[test]
+fn a_name_has_letters_digits_and_underscores(rt: HostRuntime) -> Result<(), Fail> {
+    let some = "bad name|0|bad name|bad name|bad name|1|a_ a1B_2 ";
+    assert_answers(
+        &rt,
+        rt.alloc(),
+        &["_a", "a_", "", "a b", "a-", "a1B_2"],
+        some,
+    )?;
+    let none = "bad name|bad name|bad name|bad name|";
+    assert_answers(&rt, rt.alloc(), &["ä", "aä", "Ω", "a\u{0}"], none)
+}
+
+#[test]
+fn a_name_has_16_letters_at_most(rt: HostRuntime) -> Result<(), Fail> {
+    let texts = ["abcdefghijklmnop", "abcdefghijklmnopq", "abcdefghijklmno"];
+    let some = "0|bad name|1|abcdefghijklmnop abcdefghijklmno ";
+    assert_answers(&rt, rt.alloc(), &texts, some)
+}
+
+#[test]
+fn there_are_eight_names_at_most(rt: HostRuntime) -> Result<(), Fail> {
+    let texts = ["a", "b", "c", "d", "e", "f", "g", "h", "i", "1a", "a"];
+    let eight = "0|1|2|3|4|5|6|7|too many names|too many names|too many names|a b c d e f g h ";
+    assert_answers(&rt, rt.alloc(), &texts, eight)
 }
 
 #[test]
@@ -70,8 +78,13 @@ fn names_are_found(rt: HostRuntime) -> Result<(), Fail> {
     assert_eq!(rt; names.add("x"), Err(NameError::Repeats { first: 0 }));
     assert_eq!(rt; names.find("yy"), Some(1));
     assert_eq!(rt; names.find("y"), None);
+    assert_found(&rt, &names);
+    Ok(())
+}
+
+/// Of the names `x` and `yy`, which one these bytes are.
+fn assert_found(rt: &impl Abort, names: &Names) {
     assert_eq!(rt; names.find_bytes(b"x"), Some(0));
     assert_eq!(rt; names.find_bytes(b"yy"), Some(1));
     assert_eq!(rt; names.find_bytes(&[b'x', 255]), None);
-    Ok(())
 }

@@ -1,1 +1,4 @@
 pub mod Pushed
+pub mod RowSteps
+pub mod LengthSteps
+pub mod Published

@@ -1,5 +1,4 @@
 pub mod Greatest
-pub mod EmptyRows
 pub mod LeadParts
 pub mod PartsSeen
 pub mod Known

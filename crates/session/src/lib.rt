@@ -1,9 +1,8 @@
 //! A job, whose factors are raised to any list of precisions.
 #![tactic(auto)]
 
-// what a session is opened with: the greatest precision, rows, and the first parts of the lead
+// what a session is opened with: the greatest precision, and the first parts of the lead
 mod lead;
-mod opening;
 mod precision;
 
 // a session, and what a writer sees of it

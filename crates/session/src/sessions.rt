@@ -21,16 +21,17 @@ ghost use Rattle.session.specs.Calls.{IsFresh, HaveAll, KeepsSession, IsRaised, 
 ghost use Rattle.session.specs.Props.{IsSession-IsProp, HasItems-IsProp};
 
 use crate::lead::extend_lead;
-use crate::opening::empty_rows;
 use crate::precision::greatest_permitted;
 use intake::Job;
 use parts::{Part, Ring};
 use prepare::{Prep, Tally};
 use ps_model::{NameView, OutOfMemory};
 use rows::{OwnRow, RowOut};
-use stages::{Line, LineView, StageItem};
+use stages::{Line, LineView, StageItem, empty_rows};
 use std::alloc::Global;
+use std::marker::Sync;
 use std::sync::Arc;
+use std::thread::Threads;
 
 /// What contracts see of a session.
 pub trait SessionView {
@@ -188,6 +189,38 @@ impl<R: RowOut<StageItem>> Session<R> {
         Ok(())
     }
 
+    /// Raises each row and the lead to a degree as `raise` does, the rows in rounds: in each round the
+    /// stages that can put their next item, split over at most `workers` threads.
+    pub fn raise_rounds(
+        &mut self,
+        rt: &(impl Threads + Sync),
+        to: u32,
+        workers: u32,
+        tally: &mut Tally,
+    ) -> Result<(), OutOfMemory>
+        requires permitted { IsPermitted (weights_in (⟦<Self as SessionView>⟧.state self.old).job.job) to }
+        requires some_workers { 1 ≤ workers }
+        requires few_workers { workers ≤ 64 }
+        requires tally { tally.old ≤ 2 ^ 61 }
+        ensures kept { let state = ⟦<Self as SessionView>⟧.state in
+            KeepsSession (state self.old) (state self.new) }
+        ensures ok { let state = ⟦<Self as SessionView>⟧.state in
+            OnOk result (IsRaised (to + 1) (state self.old) (state self.new)) }
+        ensures within { let state = ⟦<Self as SessionView>⟧.state in
+            IsWithin (to + 1) (state self.old) (state self.new) }
+        ensures ticks { let state = ⟦<Self as SessionView>⟧.state in
+            tally.new + prepared_degrees (state self.old)
+            ≡ tally.old + prepared_degrees (state self.new) }
+        ensures there { let state = ⟦<Self as SessionView>⟧.state in
+            HaveAll (to + 1) (state self.old) → IsOk result
+            × (state self.new ≡ state self.old) × (tally.new ≡ tally.old) }
+    {
+        let rows = self.job.input();
+        extend_lead(rows, &mut self.lead, to)?;
+        self.line.raise_rounds(rt, rows, to, workers, tally)?;
+        Ok(())
+    }
+
     /// The preparation of stage `stage`, once it is begun.
     pub fn preparation(&self, stage: u32) -> Option<&Prep>
         requires { stage < length (⟦<Self as SessionView>⟧.state self.now).stages }
@@ -214,8 +247,6 @@ impl<R: RowOut<StageItem>> Session<R> {
         ensures seen { result.now
             ≡ part_at (value_of (⟦<Self as SessionView>⟧.state self.now)) i power r }
     {
-        // A line has a stage for each root, which their number tells the proof.
-        let _stages = self.line.stages();
         &self.line.item(i, r).factor()[power as usize]
     }
 

@@ -7,6 +7,8 @@ mod made;
 
 // `session`
 #[cfg(test)]
+mod rounds;
+#[cfg(test)]
 mod sessions;
 
 // `printer`, from sessions

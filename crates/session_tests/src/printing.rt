@@ -24,7 +24,7 @@ struct Case<'c> {
 }
 
 /// Writes the block of a session, where it is known up to there; whether it went without a fault.
-fn write_known_block(
+pub fn write_known_block(
     sink: &mut MemorySink,
     session: &Session<OwnRow<StageItem>>,
     d: u32,

@@ -8,11 +8,11 @@ use Rattle.std.proofs.lemmas.List.{length-map, length-set, map-set, get_or-map}
 use Rattle.std.proofs.lemmas.List.Sums.{sum_by-set}
 use Rattle.ps_model.specs.declared.job.JobData.{JobData}
 use Rattle.stages.specs.States.{StageState, prepared_of, KeepsStage, PutsOne}
-use Rattle.stages.specs.Lines.{AreStagesOf, AreFalling, Grows, AllGrow}
+use Rattle.stages.specs.Lines.{AreStagesOf, AreFalling, Grows, AllGrow, AreSameBut}
 use Rattle.stages.proofs.Tables.{either}
 
 -- a stage that stays as it is
-kept_same : (s : StageState) → KeepsStage s s
+pub kept_same : (s : StageState) → KeepsStage s s
 kept_same s = record {
   title = refl;
   ring = refl;
@@ -35,7 +35,7 @@ grows_same n s = record {
 pub kept_length : (a b : StageState) → KeepsStage a b → length a.items ≤ length b.items
 kept_length a b k = let e = ap length k.items ∙ length-append a.items k.more in omega arith
 
-kept_twice : (a b c : StageState) → KeepsStage a b → KeepsStage b c → KeepsStage a c
+pub kept_twice : (a b c : StageState) → KeepsStage a b → KeepsStage b c → KeepsStage a c
 kept_twice a b c k l = record {
   title = l.title ∙ k.title;
   ring = l.ring ∙ k.ring;
@@ -172,6 +172,11 @@ module _ {T : Type 0} (see : T → StageState) (xs : List T) (i : ℕ) (x : T) (
   grow_at n y g = subst (AllGrow n (map see xs)) (sym (map-set see xs i y))
       (all_set n (map see xs) i (see y) (let same = length-map xs see in omega arith)
       (λ d. subst (λ t. Grows n t (see y)) (sym (get_or-map see xs i x d lt)) g))
+
+  -- and no other
+  pub same_but_at : (y : T) → AreSameBut i (map see xs) (map see (set xs i y))
+  same_but_at y s d other = ap (λ l. get_or l s d) (map-set see xs i y)
+      ∙ get_or-set_other (map see xs) i s (see y) d other
 
   pub falling_at : (r : ℕ) (y : T) → ((d : StageState) → length (get_or (map see xs) i d).items ≡ r)
       → (0 < i → (d : StageState) → r < length (get_or (map see xs) (i - 1) d).items)

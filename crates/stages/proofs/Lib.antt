@@ -11,3 +11,10 @@ pub mod Rounds
 pub mod Permits
 pub mod Raises
 pub mod NewLines
+pub mod RoundParts
+pub mod RoundPlans
+pub mod RoundRaises
+pub mod EmptyRows
+pub mod Events
+pub mod FactorsOf
+pub mod Cores

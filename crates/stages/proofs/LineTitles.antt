@@ -121,3 +121,21 @@ module _ {T : Type 0} (see : T → StageState) (job : JobData) (xs : List T) whe
   of_stages line = sym (map-map (λ s. s.title) see xs)
       ∙ titles_back job 0 job.roots (map see xs) line.count
       (λ s d lt. line.title s d lt ∙ numbered job s (0 + s) (omega arith))
+
+-- a line that has its stages has one for each root
+pub line_length : {T : Type 0} (see : T → StageState) (job : JobData) (xs : List T) → AreStagesOf job (map see xs)
+    → length xs ≡ length job.roots
+line_length see job xs line = sym (length-map xs see) ∙ line.count
+
+-- a list with a place has a member
+pub some_there : (i n : ℕ) → i < n → 0 < n
+some_there i n lt = omega arith
+
+-- a line has at most 32 stages, also while it has none
+pub few_stages : {T : Type 0} (title : T → TitleValue) (job : JobData) (xs : List T) → IsAccepted job
+    → (0 < length xs → map title xs ≡ titles_of job) → length xs ≤ 32
+few_stages title job [] ok of_job = omega arith
+few_stages title job (x ∷ xs) ok of_job =
+    let few = few_roots job ok in
+    let count = line-count title job (x ∷ xs) (of_job (omega arith)) in
+    omega arith

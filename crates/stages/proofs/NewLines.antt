@@ -6,7 +6,7 @@ use Rattle.ps_model.specs.AcceptedJob.{IsAccepted}
 use Rattle.ps_model.specs.declared.job.JobData.{JobData}
 use Rattle.parts.specs.declared.rings.Ring.{Ring}
 use Rattle.stages.specs.Items.{StageItemValue}
-use Rattle.stages.specs.Lines.{AreFresh, titles_of}
+use Rattle.stages.specs.Lines.{AreFresh, AreStagesOf, titles_of}
 use Rattle.stages.specs.Splitters.{SplitterValue}
 use Rattle.stages.specs.States.{StageState}
 use Rattle.stages.specs.Titles.{TitleValue}
@@ -168,11 +168,16 @@ module _ {R : Type 0} (title : R → TitleValue) (capacity : R → ℕ) (name : 
         (are_fresh all roots)
 
 -- its stages are those of the job
-pub fresh_stages : {T : Type 0} (see : T → StageState) (job : JobData) (ring : Ring) (capacities : List ℕ)
-    (names : List (List ℕ)) (xs : List T) → IsAccepted job → AreFresh job ring capacities names (map see xs)
-    → map (λ x. (see x).title) xs ≡ titles_of job
-fresh_stages see job ring capacities names xs ok are = of_stages see job xs (record {
+pub fresh_line : (job : JobData) (ring : Ring) (capacities : List ℕ) (names : List (List ℕ)) (states : List StageState)
+    → IsAccepted job → AreFresh job ring capacities names states → AreStagesOf job states
+fresh_line job ring capacities names states ok are = record {
   accepted = ok;
   count = are.count;
   title = λ s d lt. ap (λ x. x.title) (are.each s d lt);
-})
+}
+
+pub fresh_stages : {T : Type 0} (see : T → StageState) (job : JobData) (ring : Ring) (capacities : List ℕ)
+    (names : List (List ℕ)) (xs : List T) → IsAccepted job → AreFresh job ring capacities names (map see xs)
+    → map (λ x. (see x).title) xs ≡ titles_of job
+fresh_stages see job ring capacities names xs ok are =
+    of_stages see job xs (fresh_line job ring capacities names (map see xs) ok are)

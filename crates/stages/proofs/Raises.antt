@@ -31,14 +31,16 @@ raised_more n r old mid new t u w lt so_far grow falling ticks = record {
 
 module _ {T : Type 0} (see : T → StageState) (v : Vec T Global) (xs ys : List T) (seen : xs ≡ v.items) where
   -- what is written back is what the vector holds
-  pub written : (n : ℕ) → AllGrow n (map see xs) (map see ys) → (with_items v ys).items ≡ ys
-  written n grow = with_items_is v ys (
-      let count = grow.count in
+  pub written_back : length (map see ys) ≡ length (map see xs) → (with_items v ys).items ≡ ys
+  written_back count = with_items_is v ys (
       let old = length-map xs see in
       let new = length-map ys see in
       let items = ap length seen in
       let len = v.ok.0 in
       omega arith)
+
+  pub written : (n : ℕ) → AllGrow n (map see xs) (map see ys) → (with_items v ys).items ≡ ys
+  written n grow = written_back grow.count
 
   pub raised_on : (n r : ℕ) (old : List StageState) (t u w : ℕ) → r < n → AreRaised n old (map see v.items) t u
       → AllGrow (r + 1) (map see xs) (map see ys) → (AreFalling (map see xs) → AreFalling (map see ys))
@@ -124,3 +126,10 @@ not_raised n old t = record { grow = all_same n old; falling = λ first. first; 
 pub all_have : {T : Type 0} (see : T → StageState) (r : ℕ) (xs items : List T) → xs ≡ items → AllHave r (map see items)
     → AllHave r (map see xs)
 all_have see r xs items seen have = subst (λ l. AllHave r (map see l)) (sym seen) have
+
+-- a round is begun where there are stages
+pub some_stages : {T : Type 0} (see : T → StageState) (old xs : List T) (n r to : ℕ) → AllGrow n (map see old) (map see xs)
+    → (length old ≡ 0 → 4294967295 ≤ r) → r < to + 1 → to ≤ 4095 → 0 < length xs
+some_stages see [] xs n r to grow none lt few = let past = none refl in absurd (omega arith)
+some_stages see (x ∷ old) [] n r to grow none lt few = let count = grow.count in absurd (omega arith)
+some_stages see (x ∷ old) (y ∷ xs) n r to grow none lt few = omega arith

@@ -36,15 +36,18 @@ have_grown n r xs ys have grow s d lt =
     let more = kept_length _ _ (grow.each s d low).kept in
     omega arith
 
--- few degrees are prepared
-pub few_prepared : {T : Type 0} (see : T → StageState) (xs : List T) (job : JobData) → AreStagesOf job (map see xs)
+-- few degrees are prepared by few stages
+pub prepared_few : {T : Type 0} (see : T → StageState) (xs : List T) → length (map see xs) ≤ 32
     → ((x : T) → prepared_of (see x) ≤ 4097) → sum_by prepared_of (map see xs) ≤ 131104
-few_prepared see xs job line each =
-    let few = few_roots job line.accepted in
-    let count = line.count in
+prepared_few see xs few each =
     let sums = sum_by-le prepared_of 4097 (map see xs)
     (λ k d lt. each_there (λ _ s. prepared_of s ≤ 4097) see xs (λ j e low. each (get_or xs j e)) k d lt) in
     omega arith
+
+pub few_prepared : {T : Type 0} (see : T → StageState) (xs : List T) (job : JobData) → AreStagesOf job (map see xs)
+    → ((x : T) → prepared_of (see x) ≤ 4097) → sum_by prepared_of (map see xs) ≤ 131104
+few_prepared see xs job line each = prepared_few see xs
+    (let few = few_roots job line.accepted in let count = line.count in omega arith) each
 
 -- the first i stages have their item of degree r; before and after are the tally's counts
 pub record InRound (r i : ℕ) (old new : List StageState) (before after : ℕ) : Type 0 where

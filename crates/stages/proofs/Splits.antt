@@ -5,7 +5,6 @@ use Rattle.std.proofs.Common.{◌∙◌, ap, subst, arith, ◌⊎◌, inl, inr, 
 use Rattle.std.proofs.Math.Nat.{add-mod-mod, mod_self}
 use Rattle.std.proofs.Math.ListN.{get_or-append}
 use Rattle.std.proofs.lemmas.Bool.{cases_lt}
-use Rattle.std.proofs.Math.Seq.{get_or-append_seam}
 use Rattle.ps_model.specs.AcceptedJob.{IsAccepted}
 use Rattle.ps_model.specs.Bounds.{HasNoPowerAbove}
 use Rattle.ps_model.specs.declared.job.JobData.{JobData}

@@ -5,3 +5,6 @@ pub mod Splitters
 pub mod Preparing
 pub mod States
 pub mod Lines
+pub mod Rounds
+pub mod Schedules
+pub mod FactorLists

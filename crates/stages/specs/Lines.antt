@@ -13,7 +13,8 @@
 --     Grows n old new      a stage keeps what it has and grows to n at most; where it has n items already it
 --         stays as it is
 --     AllGrow n old new      so does each stage
-use Rattle.std.specs.Prelude.{◌≡◌, ℕ, ◌≤◌, ◌<◌, max, List, [], ◌∷◌, suc, length, slice_index_or, slice_index, None}
+--     AreSameBut i old new      each stage but that at place i stays as it is
+use Rattle.std.specs.Prelude.{◌≡◌, ◌≢◌, ℕ, ◌≤◌, ◌<◌, max, List, [], ◌∷◌, suc, length, slice_index_or, slice_index, None}
 use Rattle.std.specs.Coded.{Coded-set, coded_list}
 use Rattle.ps_model.specs.AcceptedJob.{IsAccepted}
 use Rattle.ps_model.specs.declared.job.JobData.{JobData}
@@ -88,3 +89,6 @@ pub record Grows (n : ℕ) (old new : StageState) : Type 0 where
 pub record AllGrow (n : ℕ) (old new : List StageState) : Type 0 where
   pub count : length new ≡ length old
   pub each : (s : ℕ) (d : StageState) → s < length old → Grows n (slice_index_or old s d) (slice_index_or new s d)
+
+abbrev pub AreSameBut : ℕ → List StageState → List StageState → Type 0
+AreSameBut i old new = (s : ℕ) (d : StageState) → s ≢ i → slice_index_or new s d ≡ slice_index_or old s d

@@ -11,10 +11,26 @@ mod splitter;
 
 // a stage with its row, and all stages of a job
 mod line;
+mod own_rows;
 mod raising;
 mod stage;
 
+// a line that is raised in rounds, in which stages work side by side
+mod round;
+mod upstream;
+mod workers;
+// stages taken out of their line, and stages whose rows are shared with readers
+mod shared;
+mod taking;
+
+// stages that step in any order
+mod schedule;
+
 pub use item::StageItem;
 pub use line::{Line, LineView};
+pub use own_rows::empty_rows;
+pub use schedule::{Core, run_schedule};
+pub use shared::SharedStageView;
 pub use stage::{Stage, StageView};
+pub use taking::StagesView;
 pub use title::StageTitle;

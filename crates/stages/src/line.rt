@@ -2,6 +2,7 @@
 ghost use Rattle.std.specs.Prelude.{◌≡◌, ℕ, ◌+◌, ◌<◌, ◌≤◌, ◌^◌, [], length, map, sum_by, IfOk, IfErr};
 ghost use Rattle.std.specs.Prelude.{OnOk, OnErr, IsOk, Some, None, IfSome, slice_get, ◌↔◌, List, take};
 ghost use Rattle.std.specs.Arc.{arc_value};
+ghost use Rattle.std.specs.Coded.{→_prop};
 ghost use Rattle.ps_model.specs.declared.job.JobData.{JobData};
 ghost use Rattle.ps_model.specs.AcceptedJob.{IsAccepted};
 ghost use Rattle.ps_model.specs.Props.{IsAccepted-IsProp};
@@ -11,9 +12,11 @@ ghost use Rattle.stages.specs.Splitters.{IsPreparationOf, AreSplitters};
 ghost use Rattle.stages.specs.States.{StageState, prepared_of};
 ghost use Rattle.stages.specs.Lines.{titles_of, titles-set, AreFresh, OfStage};
 ghost use Rattle.stages.specs.Lines.{HaveRoom, AllHave, AreFalling, AreKept, AllReach, NoneExceeds};
+ghost use Rattle.stages.specs.Lines.{AreStagesOf};
 
 use crate::item::StageItem;
 use crate::raising::{least_length, raise_all};
+use crate::round::{lacks_item, raise_round};
 use crate::splitter::Splitter;
 use crate::stage::{Stage, StageView};
 use crate::title::StageTitle;
@@ -22,17 +25,20 @@ use prepare::{Prep, Tally};
 use ps_model::{JobData, OutOfMemory};
 use rows::RowOut;
 use std::alloc::Global;
+use std::marker::Sync;
 use std::sync::Arc;
+use std::thread::Threads;
 use taylor::SharedBinomials;
 
-/// All stages of a job, the first one first. Each takes what the one before it leaves.
+/// All stages of a job, the first one first, or none while they are taken out. Each takes what the
+/// one before it leaves.
 #[derive(Drop)]
 pub struct Line<R: RowOut<StageItem>> {
-    alloc: Global,
-    job: Arc<JobData>,
-    stages: Vec<Stage<R>>,
+    pub(crate) alloc: Global,
+    pub(crate) job: Arc<JobData>,
+    pub(crate) stages: Vec<Stage<R>>,
     ghost accepted: { IsAccepted (arc_value job) } by { IsAccepted-IsProp _ },
-    ghost of_job: { map (λ s. s.splitter.title) stages.items ≡ titles_of (arc_value job) } by { titles-set _ _ },
+    ghost of_job: { 0 < length stages.items → map (λ s. s.splitter.title) stages.items ≡ titles_of (arc_value job) } by { →_prop (titles-set _ _) },
 }
 
 /// What contracts see of a line.
@@ -67,6 +73,8 @@ impl<R: RowOut<StageItem>> Line<R> {
         ensures states { IfOk result (λ line. AreFresh (arc_value job) ring
             (map R.capacity rows.items) (map R.name rows.items)
             (⟦<Self as LineView>⟧.states line)) }
+        ensures whole { IfOk result (λ line.
+            AreStagesOf (⟦<Self as LineView>⟧.job line) (⟦<Self as LineView>⟧.states line)) }
         ensures rows { IfErr result (λ e. e.1.items ≡ rows.items) }
     {
         let splitters = match make_splitters(alloc, ring, &job) {
@@ -105,6 +113,10 @@ impl<R: RowOut<StageItem>> Line<R> {
         requires source { I.job input.old ≡ ⟦<Self as LineView>⟧.job self.old }
         requires tally { tally.old ≤ 2 ^ 61 }
         ensures job { ⟦<Self as LineView>⟧.job self.new ≡ ⟦<Self as LineView>⟧.job self.old }
+        ensures whole { let job = ⟦<Self as LineView>⟧.job in
+            let states = ⟦<Self as LineView>⟧.states in
+            AreStagesOf (job self.old) (states self.old)
+            → AreStagesOf (job self.new) (states self.new) }
         ensures source { I.job input.new ≡ I.job input.old }
         ensures kept { let states = ⟦<Self as LineView>⟧.states in
             AreKept (states self.old) (states self.new) }
@@ -127,10 +139,62 @@ impl<R: RowOut<StageItem>> Line<R> {
         Ok(())
     }
 
-    /// How many stages there are.
+    /// Raises the line to a degree as `raise` does, in rounds. In a round each stage that lacks an item,
+    /// and for which what it is made of is there as the round begins, puts it: so the stages work side by
+    /// side, each one degree behind the one before it at least.
+    ///
+    /// The stages of a round are split over at most `workers` threads, the caller's among them, which are
+    /// joined, each with a count of steps of its own. Where a thread can't be had the caller does its work.
+    pub fn raise_rounds<I: RowSource>(
+        &mut self,
+        rt: &(impl Threads + Sync),
+        input: &mut I,
+        to: u32,
+        workers: u32,
+        tally: &mut Tally,
+    ) -> Result<(), OutOfMemory>
+        requires room { HaveRoom to (⟦<Self as LineView>⟧.states self.old) }
+        requires permitted { let job = ⟦<Self as LineView>⟧.job self.old in
+            IsPermitted (take job.n job.weights) to }
+        requires source { I.job input.old ≡ ⟦<Self as LineView>⟧.job self.old }
+        requires some_workers { 1 ≤ workers }
+        requires few_workers { workers ≤ 64 }
+        requires tally { tally.old ≤ 2 ^ 61 }
+        ensures job { ⟦<Self as LineView>⟧.job self.new ≡ ⟦<Self as LineView>⟧.job self.old }
+        ensures whole { let job = ⟦<Self as LineView>⟧.job in
+            let states = ⟦<Self as LineView>⟧.states in
+            AreStagesOf (job self.old) (states self.old)
+            → AreStagesOf (job self.new) (states self.new) }
+        ensures source { I.job input.new ≡ I.job input.old }
+        ensures kept { let states = ⟦<Self as LineView>⟧.states in
+            AreKept (states self.old) (states self.new) }
+        ensures falling { let states = ⟦<Self as LineView>⟧.states in
+            AreFalling (states self.old) → AreFalling (states self.new) }
+        ensures ok { let states = ⟦<Self as LineView>⟧.states in
+            OnOk result (AllReach (to + 1) (states self.old) (states self.new)) }
+        ensures err { let states = ⟦<Self as LineView>⟧.states in
+            OnErr result (NoneExceeds (to + 1) (states self.old) (states self.new)) }
+        ensures ticks { let states = ⟦<Self as LineView>⟧.states in
+            tally.new + sum_by prepared_of (states self.old)
+            ≡ tally.old + sum_by prepared_of (states self.new) }
+        ensures there { let states = ⟦<Self as LineView>⟧.states in
+            AllHave (to + 1) (states self.old) → IsOk result
+            × (states self.new ≡ states self.old) × (input.new ≡ input.old) × (tally.new ≡ tally.old) }
+    {
+        while lacks_item(&self.stages, to) {
+            raise_round(rt, self.alloc, &mut self.stages, input, to, workers, tally)?;
+        }
+        Ok(())
+    }
+
+    /// How many stages there are: one for each root, or none while they are taken out.
     pub fn stages(&self) -> u32
         ensures count { result ≡ length (⟦<Self as LineView>⟧.states self.now) }
-        ensures job { result ≡ length (⟦<Self as LineView>⟧.job self.now).roots }
+        ensures job { AreStagesOf (⟦<Self as LineView>⟧.job self.now)
+            (⟦<Self as LineView>⟧.states self.now)
+            → result ≡ length (⟦<Self as LineView>⟧.job self.now).roots }
+        ensures whole { 0 < result → AreStagesOf (⟦<Self as LineView>⟧.job self.now)
+            (⟦<Self as LineView>⟧.states self.now) }
     {
         self.stages.len() as u32
     }

@@ -4,6 +4,7 @@ ghost use Rattle.std.specs.Prelude.{OnOk, OnErr};
 ghost use Rattle.parts.specs.JobRows.{IsPermitted};
 ghost use Rattle.stages.specs.States.{prepared_of};
 ghost use Rattle.stages.specs.Lines.{OfStage, AreStagesOf, HaveRoom, AllHave, AreFalling, AllGrow};
+ghost use Rattle.stages.specs.Lines.{AreSameBut};
 
 use crate::item::StageItem;
 use crate::stage::{Stage, StageView};
@@ -13,10 +14,11 @@ use ps_model::OutOfMemory;
 use rows::RowOut;
 use std::sync::Arc;
 
-/// The number of items that each row has at least.
+/// The number of items that each row has at least; the greatest number of no row.
 pub(crate) fn least_length<R: RowOut<StageItem>>(stages: &[Stage<R>]) -> u32
-    ensures { let state = ⟦<Stage<R> as StageView>⟧.state in
+    ensures have { let state = ⟦<Stage<R> as StageView>⟧.state in
         AllHave result (map state stages.now) }
+    ensures none { length stages.now ≡ 0 → result ≡ u32.MAX }
 {
     let mut least = u32::MAX;
     for stage in stages {
@@ -64,8 +66,8 @@ pub(crate) fn raise_all<R: RowOut<StageItem>, I: RowSource>(
     Ok(())
 }
 
-/// Puts the item of degree `r` of stage `s`, which is its next one.
-fn raise_one<R: RowOut<StageItem>, I: RowSource>(
+/// Puts the item of degree `r` of stage `s`, which is its next one. No other stage changes.
+pub(crate) fn raise_one<R: RowOut<StageItem>, I: RowSource>(
     stages: &mut [Stage<R>],
     s: usize,
     r: u32,
@@ -88,6 +90,8 @@ fn raise_one<R: RowOut<StageItem>, I: RowSource>(
         AllGrow (r + 1) (map state stages.old) (map state stages.new) }
     ensures falling { let state = ⟦<Stage<R> as StageView>⟧.state in
         AreFalling (map state stages.old) → AreFalling (map state stages.new) }
+    ensures others { let state = ⟦<Stage<R> as StageView>⟧.state in
+        AreSameBut s (map state stages.old) (map state stages.new) }
     ensures ok { let state = ⟦<Stage<R> as StageView>⟧.state in
         OnOk result (OfStage (map state stages.new) s (λ x. r < length x.items)) }
     ensures ticks { let state = ⟦<Stage<R> as StageView>⟧.state in

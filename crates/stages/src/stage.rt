@@ -32,9 +32,9 @@ pub trait StageView {
 /// degree by degree.
 #[derive(Drop)]
 pub struct Stage<R: RowOut<StageItem>> {
-    alloc: Global,
-    splitter: Splitter,
-    row: R,
+    pub(crate) alloc: Global,
+    pub(crate) splitter: Splitter,
+    pub(crate) row: R,
     ghost same_title: { R.title row ≡ splitter.title } by { Coded-set title_code _ _ },
     ghost behind: { length (R.items row) ≤ prepared_in splitter.preparation },
     ghost ahead: { prepared_in splitter.preparation ≤ length (R.items row) + 1 },

@@ -1,4 +1,4 @@
-use Rattle.std.proofs.Common.{ℕ, ◌+◌, ◌∙◌, List, ◌∷◌, Option, ap, sym, subst, refl, inr, inl, arith, Ok, Err}
+use Rattle.std.proofs.Common.{ℕ, ◌+◌, ◌∙◌, List, ◌∷◌, Option, Some, ap, sym, subst, refl, inr, inl, arith, Ok, Err}
 use Rattle.std.proofs.lemmas.Result.{err_from_is_err_and}
 use Rattle.script.specs.Answers.{Line}
 use Rattle.commands.specs.Checks.{IsTold, Ends, IsTooLong, IsCheckedFrom}
@@ -6,11 +6,11 @@ use Rattle.commands.specs.CheckLines.{ChecksLine, state_in}
 use Rattle.commands.specs.Runs.{Ran}
 use Rattle.commands.specs.Statuses.{status_of}
 use Rattle.commands.specs.Telling.{Tells, check_status}
-use Rattle.commands.specs.declared.words.Command.TheVariants.{Check}
+use Rattle.commands.specs.Words.{Check}
 use Rattle.commands.proofs.CheckRuns.{check_far_none, check_far_line, ready, ran_check_line, ran_check_too_long}
-use Rattle.commands.proofs.CheckRuns.{ran_check_end, ran_check_failed, ran_check_first}
+use Rattle.commands.proofs.CheckRuns.{ran_check_end, ran_check_failed}
 use Rattle.commands.proofs.CheckRuns.{never_none, never_six, next_number, few_more}
-use Rattle.commands.proofs.RunsEnded.{rose_later}
+use Rattle.commands.proofs.RunsEnded.{ran_first, rose_later}
 use Rattle.commands.proofs.check.check_script.Goals as goal
 
 pub returns-in_err-lines : goal.returns-in_err-lines
@@ -20,9 +20,9 @@ returns-in_err-lines g c =
     let read = g.S.Source.faults c.args.source.now in
     let written = g.K.Sink.written c.args.sink.now in
     let wrote = g.K.Sink.faults c.args.sink.now in
-    subst (λ n. Ran Check n left left read read written written wrote wrote c.args.tally.now c.args.tally.now)
+    subst (λ n. Ran (Some Check) n left left read read written written wrote wrote c.args.tally.now c.args.tally.now)
     (sym (ap check_status (p.1 ∙ ap Err p.2)))
-    (ran_check_first left written read wrote c.args.tally.now)
+    (ran_first (Some Check) left written read wrote c.args.tally.now)
 
 pub loop-checking-init : goal.loop-checking-init
 loop-checking-init g c = record {
@@ -47,7 +47,7 @@ returns-in_err-checking-in-Line g c =
     let answers = subst (λ (x : List ℕ × ℕ × Option (List ℕ) × ℕ). ChecksLine c.loop-checking.checking x.0 x.1 (Err e)
     x.2 (g.K.Sink.written c.line.new.sink) x.3 (g.K.Sink.faults c.line.new.sink))
     (λ i. (c.text.ensures i, c.number.ensures i, inv.written i, inv.wrote i)) c.in_err-checking-in-Line.ensures in
-    subst (λ n. Ran Check n (g.S.Source.left c.args.source.now) (g.S.Source.left c.next.new.source)
+    subst (λ n. Ran (Some Check) n (g.S.Source.left c.args.source.now) (g.S.Source.left c.next.new.source)
     (g.S.Source.faults c.args.source.now) (g.S.Source.faults c.next.new.source)
     (g.K.Sink.written c.args.sink.now) (g.K.Sink.written c.line.new.sink) (g.K.Sink.faults c.args.sink.now)
     (g.K.Sink.faults c.line.new.sink) c.args.tally.now c.loop-checking.tally)
@@ -144,7 +144,7 @@ returns-in-End g c =
 pub returns-in-Failed : goal.returns-in-Failed
 returns-in-Failed g c =
     let inv = c.loop-checking.invariant in
-    subst (λ (x : Option (List ℕ) × ℕ × ℕ). Ran Check 3 (g.S.Source.left c.args.source.now)
+    subst (λ (x : Option (List ℕ) × ℕ × ℕ). Ran (Some Check) 3 (g.S.Source.left c.args.source.now)
     (g.S.Source.left c.next.new.source) (g.S.Source.faults c.args.source.now) (g.S.Source.faults c.next.new.source)
     (g.K.Sink.written c.args.sink.now) x.0 (g.K.Sink.faults c.args.sink.now) x.1 c.args.tally.now x.2)
     (λ i. (sym inv.written i, sym inv.wrote i, sym inv.tally i))

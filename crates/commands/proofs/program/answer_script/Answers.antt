@@ -1,8 +1,8 @@
-use Rattle.std.proofs.Common.{ℕ, ◌+◌, ◌∙◌, List, ap, sym, subst, refl, inl, inr, arith, Ok, Err}
+use Rattle.std.proofs.Common.{ℕ, ◌+◌, ◌∙◌, List, ap, sym, subst, refl, inl, inr, arith, Some, Ok, Err}
 use Rattle.std.proofs.lemmas.Result.{err_from_is_err_and}
 use Rattle.script.specs.Refusals.{line_refused}
 use Rattle.script.specs.declared.refusal.Refusal.TheVariants.{InputTooLong}
-use Rattle.commands.specs.declared.words.Command.TheVariants.{Script}
+use Rattle.commands.specs.Words.{Script}
 use Rattle.commands.specs.Lines.{AnswersLine, Refuses}
 use Rattle.commands.specs.Runs.{Ran, status_in}
 use Rattle.commands.proofs.RunsDone.{so_far_none}
@@ -16,10 +16,10 @@ returns-in_err-lines g c =
     let read = g.S.Source.faults c.args.source.now in
     let written = g.K.Sink.written c.args.sink.now in
     let wrote = g.K.Sink.faults c.args.sink.now in
-    subst (λ n. Ran (Script c.args.command) n left left read read written written wrote wrote c.args.tally.now
+    subst (λ n. Ran (Some (Script c.args.command)) n left left read read written written wrote wrote c.args.tally.now
     c.args.tally.now)
     (sym (ap status_in (p.1 ∙ ap Err p.2)))
-    (ran_first c.args.command left written read wrote c.args.tally.now)
+    (ran_first (Some (Script c.args.command)) left written read wrote c.args.tally.now)
 
 pub loop-reading-init : goal.loop-reading-init
 loop-reading-init g c = record {
@@ -32,7 +32,7 @@ loop-reading-init g c = record {
 }
 
 pub line-requires-clause-tally : goal.line-requires-clause-tally
-line-requires-clause-tally g c =
+line-requires-clause-tally g c = λ κs outlives.
     let far = c.loop-reading.invariant.far in
     few_steps c.args.command c.loop-reading.reading c.args.tally.now c.loop-reading.tally c.requires.room far.reads
     far.spends
@@ -46,7 +46,7 @@ returns-in_err-reading-in-Line g c =
     (g.K.Sink.written c.loop-reading.sink) (g.K.Sink.written c.line.new.sink) (g.K.Sink.faults c.loop-reading.sink)
     (g.K.Sink.faults c.line.new.sink) c.loop-reading.tally c.line.new.tally)
     (λ i. (c.text.ensures i, c.number.ensures i)) c.in_err-reading-in-Line.ensures in
-    subst (λ n. Ran (Script c.args.command) n (g.S.Source.left c.args.source.now) (g.S.Source.left c.next.new.source)
+    subst (λ n. Ran (Some (Script c.args.command)) n (g.S.Source.left c.args.source.now) (g.S.Source.left c.next.new.source)
     (g.S.Source.faults c.args.source.now) (g.S.Source.faults c.next.new.source)
     (g.K.Sink.written c.args.sink.now) (g.K.Sink.written c.line.new.sink) (g.K.Sink.faults c.args.sink.now)
     (g.K.Sink.faults c.line.new.sink) c.args.tally.now c.line.new.tally)

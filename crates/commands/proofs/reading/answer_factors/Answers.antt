@@ -3,12 +3,16 @@ use Rattle.std.proofs.lemmas.Result.{err_from_is_err_and}
 use Rattle.parts.specs.Rings.{weights_of}
 use Rattle.script.specs.Requests as request
 use Rattle.commands.specs.declared.reading.Reading.TheVariants.{Factors}
-use Rattle.commands.specs.declared.words.ScriptCommand.TheVariants.{Factor}
+use Rattle.commands.specs.declared.command.ScriptCommand.TheVariants.{Factor}
 use Rattle.commands.specs.Answering.{FactoringValue}
 use Rattle.commands.specs.Lines.{AnswersLine}
 use Rattle.commands.proofs.LinesDone.{factor_answered, factor_stopped, refused_line}
-use Rattle.commands.proofs.LinesRead.{does_asked, low_precision}
+use Rattle.commands.proofs.LinesRead.{does_asked, low_precision, permitted_in}
 use Rattle.commands.proofs.reading.answer_factors.Goals as goal
+
+pub answer-requires-clause-permitted : goal.answer-requires-clause-permitted
+answer-requires-clause-permitted g c = λ κs outlives. permitted_in true c.ring.result c.args.factoring.job c.args.line.now
+    c.in-Ok.request c.ring.ensures c.in-Ok.ensures
 
 pub returns-in_err-answer-in-Ok : goal.returns-in_err-answer-in-Ok
 returns-in_err-answer-in-Ok g c =

@@ -4,7 +4,7 @@ use Rattle.parts.specs.Rings.{weights_of}
 use Rattle.script.specs.Requests as request
 use Rattle.script.specs.declared.request.Request.TheVariants.{Show}
 use Rattle.commands.specs.declared.reading.Reading.TheVariants.{Inputs}
-use Rattle.commands.specs.declared.words.ScriptCommand.TheVariants.{Expand}
+use Rattle.commands.specs.declared.command.ScriptCommand.TheVariants.{Expand}
 use Rattle.commands.specs.Lines.{AnswersLine}
 use Rattle.commands.proofs.LinesDone.{expand_answered, expand_stopped, refused_line}
 use Rattle.commands.proofs.LinesRead.{does_asked, shows_alone}

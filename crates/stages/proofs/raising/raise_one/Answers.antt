@@ -4,7 +4,7 @@ use Rattle.std.specs.Arc.{arc_value}
 use Rattle.parts.specs.RowsOfParts.{parts_of}
 use Rattle.stages.specs.Items.{IsItem}
 use Rattle.stages.specs.Slices.{IsUpstream}
-use Rattle.stages.proofs.Growth.{of_stage, room_at, title_is, grow_at, falling_at, tick_at, now_at, grows_after}
+use Rattle.stages.proofs.Growth.{of_stage, room_at, title_is, grow_at, falling_at, tick_at, now_at, grows_after, same_but_at}
 use Rattle.stages.proofs.Growth.{put_more}
 use Rattle.stages.proofs.Upstreams.{first_upstream, next_upstream, left_upstream}
 use Rattle.stages.proofs.raising.raise_one.Goals as goal
@@ -63,6 +63,10 @@ returns-in_ok-row-clause-falling g c =
     c.requires.next)
     c.advance.ensures.kept c.advance.ensures.ok c.advance.ensures.err c.advance.new.self.ahead)
 
+pub returns-in_ok-row-clause-others : goal.returns-in_ok-row-clause-others
+returns-in_ok-row-clause-others g c =
+    same_but_at _ c.args.stages.now c.args.s c.index-stages-s.result c.requires.stage _
+
 pub returns-in_ok-row-clause-ok : goal.returns-in_ok-row-clause-ok
 returns-in_ok-row-clause-ok g c = on_ok_weaker c.advance.result
     (λ puts. now_at _ c.args.stages.now c.args.s c.index-stages-s.result c.requires.stage
@@ -94,6 +98,10 @@ returns-in_ok-item-clause-falling g c =
     c.requires.next)
     c.advance-else-s-eq0.ensures.kept c.advance-else-s-eq0.ensures.ok c.advance-else-s-eq0.ensures.err
     c.advance-else-s-eq0.new.self.ahead)
+
+pub returns-in_ok-item-clause-others : goal.returns-in_ok-item-clause-others
+returns-in_ok-item-clause-others g c =
+    same_but_at _ c.args.stages.now c.args.s c.index-stages-s-else-s-eq0-2.result c.requires.stage _
 
 pub returns-in_ok-item-clause-ok : goal.returns-in_ok-item-clause-ok
 returns-in_ok-item-clause-ok g c = on_ok_weaker c.advance-else-s-eq0.result

@@ -2,7 +2,7 @@ use Rattle.std.proofs.Common.{◌∙◌, ap, Err, refl}
 use Rattle.std.proofs.lemmas.Result.{err_from_is_err_and}
 use Rattle.script.specs.Script.{Has}
 use Rattle.script.specs.declared.request.Request.TheVariants.{Show}
-use Rattle.commands.specs.declared.words.ScriptCommand.TheVariants.{Expand}
+use Rattle.commands.specs.declared.command.ScriptCommand.TheVariants.{Expand}
 use Rattle.commands.proofs.ExpandingSteps.{held, written_rows, written_low, written_answers}
 use Rattle.commands.proofs.Replied.{answered, not_written, not_begun}
 use Rattle.commands.proofs.expanding.Expanding.answer.Goals as goal

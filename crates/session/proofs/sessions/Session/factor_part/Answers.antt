@@ -5,6 +5,10 @@ use Rattle.session.specs.FactorParts.{IsFactorPart}
 use Rattle.session.proofs.PartsSeen.{slices_seen, long, at, factor_part, degree_there, row_item}
 use Rattle.session.proofs.sessions.Session.factor_part.Goals as goal
 
+pub item-requires-clause-stage : goal.item-requires-clause-stage
+item-requires-clause-stage g c κs within =
+    let count = c.args.self.now.holds.of_job.count in let low = c.requires.factor in omega arith
+
 pub item-requires-clause-degree : goal.item-requires-clause-degree
 item-requires-clause-degree g c κs within = degree_there _ c.args.self.now.holds c.args.self.now.fits c.args.i c.args.r
     c.requires.factor c.requires.known

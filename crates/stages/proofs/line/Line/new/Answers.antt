@@ -1,5 +1,6 @@
 use Rattle.std.proofs.Common.{ap, arith}
-use Rattle.stages.proofs.NewLines.{splitter_is, row_empty, row_title, made_more, made_fresh, fresh_stages}
+use Rattle.stages.proofs.NewLines.{splitter_is, row_empty, row_title, made_more, made_fresh, fresh_line}
+use Rattle.stages.proofs.NewLines.{fresh_stages}
 use Rattle.stages.proofs.line.Line.new.Goals as goal
 
 pub over-requires-clause-fresh : goal.over-requires-clause-fresh
@@ -22,10 +23,15 @@ loop-row-preserved g c = record {
 }
 
 pub invariant_of-result-clause-of_job : goal.invariant_of-result-clause-of_job
-invariant_of-result-clause-of_job g c = fresh_stages _ _ _ _ _ c.loop-row.stages.items c.requires.accepted
+invariant_of-result-clause-of_job g c some = fresh_stages _ _ _ _ _ c.loop-row.stages.items c.requires.accepted
     (made_fresh _ _ _ _ _ _ _ _ _ _ _ _ c.loop-row.invariant.made c.loop-row.rows.rest.ok.0
     c.in_default-next.ensures.cases.0 c.requires.count)
 
 pub returns-clause-states : goal.returns-clause-states
 returns-clause-states g c = made_fresh _ _ _ _ _ _ _ _ _ _ _ _ c.loop-row.invariant.made c.loop-row.rows.rest.ok.0
     c.in_default-next.ensures.cases.0 c.requires.count
+
+pub returns-clause-whole : goal.returns-clause-whole
+returns-clause-whole g c = fresh_line _ _ _ _ _ c.requires.accepted
+    (made_fresh _ _ _ _ _ _ _ _ _ _ _ _ c.loop-row.invariant.made c.loop-row.rows.rest.ok.0
+    c.in_default-next.ensures.cases.0 c.requires.count)

@@ -1,4 +1,4 @@
-use Rattle.std.proofs.Common.{◌≡◌, ◌+◌, map}
+use Rattle.std.proofs.Common.{◌≡◌, ◌≤◌, ◌+◌, length, map}
 use Rattle.std.specs.Arc.{arc_value}
 use Rattle.stages.specs.Lines.{AllHave}
 use Rattle.stages.specs.States.{StageState, state_by}
@@ -16,4 +16,5 @@ invariant-loop-r g l =
       source : g.I.RowSource.job l.input ≡ g.I.RowSource.job l.fn.input;
       there : AllHave (l.to + 1) (map state l.fn.self.stages.items) → l.input ≡ l.fn.input;
       job : arc_value l.self.job ≡ arc_value l.fn.self.job;
+      none : length l.fn.self.stages.items ≡ 0 → 4294967295 ≤ l.r;
     }

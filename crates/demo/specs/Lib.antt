@@ -1,0 +1,4 @@
+pub mod Generator
+pub mod DemoText
+pub mod Counts
+pub mod Faults

@@ -1,0 +1,15 @@
+pub mod Plain
+pub mod Steps
+pub mod WordForms
+pub mod LongWords
+pub mod FactorSteps
+pub mod FactorWalk
+pub mod Factor
+pub mod Others
+pub mod Parses
+pub mod Numbers
+pub mod Forward
+pub mod CommandIn
+pub mod Found
+pub mod TakenRows
+pub mod Apps
