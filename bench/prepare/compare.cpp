@@ -1,8 +1,10 @@
 // The recurrences of a preparation in C++, for a comparison with the proved one: the same rows, of a
-// polynomial of degree 8 in Y at k = 2, and each part added up in cells of 128 bits that are reduced
-// once at the end, as the proved parts are.
+// polynomial of degree 8 in Y at k = 2, and the same layout. Each series keeps its coefficients in
+// rows along the first variable, so that a coefficient of a product is a sum of products of two
+// contiguous lists, one of them read backwards, which is exact and reduced once.
 // Words: DEGREE MODULUS TIMES. It prints the degrees, the checksum, and nanoseconds for one
 // preparation, the least of TIMES.
+#include <algorithm>
 #include <chrono>
 #include <cstdint>
 #include <cstdio>
@@ -30,65 +32,99 @@ static Part part_at(int degree, int j, uint64_t m) {
     return part;
 }
 
-struct Sum {
-    std::vector<Wide> cells;
-    uint64_t m;
-    Wide multiple;
-    Sum(const Part& start, uint64_t m) : cells(start.begin(), start.end()), m(m) {
-        Wide top = (Wide)1 << 127;
-        multiple = top - top % m;
-    }
-    void subtract(const Part& a, const Part& b) {
-        for (size_t i = 0; i < a.size(); i++) {
-            uint64_t c = a[i] ? m - a[i] : 0;
-            for (size_t j = 0; j < b.size(); j++) {
-                Wide sum = cells[i + j] + (Wide)c * b[j];
-                cells[i + j] = sum >> 127 ? sum - multiple : sum;
-            }
+// an exact sum of products: 192 bits, or the halves of products below 2^64 apart
+struct Exact {
+    Wide low = 0, high = 0;
+
+    void add_wide(const uint64_t* a, const uint64_t* w, int n) {
+        Wide sum = low;
+        uint64_t carries = 0;
+        for (int i = 0; i < n; i++) {
+            Wide product = (Wide)a[i] * w[-i];
+            sum += product;
+            carries += sum < product;
         }
+        low = sum;
+        high += carries;
     }
-    Part finish() const {
-        Part part;
-        for (Wide cell : cells) part.push_back(cell % m);
-        return part;
+
+    void add_halves(const uint64_t* a, const uint64_t* w, int n) {
+        uint64_t below = 0, above = 0;
+        for (int i = 0; i < n; i++) {
+            uint64_t product = (uint64_t)(uint32_t)a[i] * (uint32_t)w[-i];
+            below += (uint32_t)product;
+            above += product >> 32;
+        }
+        low += below + ((Wide)above << 32);
+    }
+
+    uint64_t residue(uint64_t m) const {
+        Wide top = ((~(Wide)0) % m + 1) % m;  // 2^128
+        return (low % m + high % m * top) % m;
     }
 };
+
+// a series in two variables: at row g the coefficients of x^p y^g
+struct Series {
+    std::vector<std::vector<uint64_t>> rows;
+
+    void push(const Part& part) {
+        int degree = part.size() - 1;
+        rows.emplace_back();
+        for (int p = 0; p <= degree; p++) rows[degree - p].push_back(part[p]);
+    }
+};
+
+static void add_product_at(Exact& sum, const Series& a, const Series& w, int p, int g, bool small) {
+    for (int e = 0; e <= g && e < (int)a.rows.size(); e++) {
+        if (g - e >= (int)w.rows.size()) continue;
+        const auto& left = a.rows[e];
+        const auto& right = w.rows[g - e];
+        int first = std::max(0, p - (int)right.size() + 1), end = std::min(p + 1, (int)left.size());
+        if (first >= end) continue;
+        if (small) sum.add_halves(&left[first], &right[p - first], end - first);
+        else sum.add_wide(&left[first], &right[p - first], end - first);
+    }
+}
 
 struct Prep {
     std::vector<Row> p, u;
+    std::vector<Series> of_p{K}, of_u{Q + 1};
 };
 
-// takes the products of the slices i of p and h of u, of p's degrees from 1 to below end
-static void subtract_crossed(Sum& sum, const Prep& prep, int r, int i, int h, int end) {
-    for (int s = 1; s < end; s++) sum.subtract(prep.p[s][i], prep.u[r - s][h]);
-}
-
-static void subtract_all(Sum& sum, const Prep& prep, int r, int count, int l) {
-    for (int i = 0; i < count; i++)
-        if (l - i <= Q) subtract_crossed(sum, prep, r, i, l - i, r + 1);
+// the part of `start` less that of the product of the first `count` series of p with those of u at Y^l
+static Part less_crossed(const Prep& prep, const Part& start, int count, int l, uint64_t m) {
+    int degree = start.size() - 1;
+    Part part(degree + 1);
+    bool small = m >> 32 == 0;
+    for (int p = 0; p <= degree; p++) {
+        Exact sum;
+        for (int h = 0; h < count; h++)
+            if (l - h <= Q) add_product_at(sum, prep.of_p[h], prep.of_u[l - h], p, degree - p, small);
+        uint64_t taken = sum.residue(m);
+        part[p] = start[p] >= taken ? start[p] - taken : start[p] + (m - taken);
+    }
+    return part;
 }
 
 static Prep prepared(const std::vector<Row>& rows, uint64_t m) {
     Prep prep;
     prep.p.push_back({{0}, {0}, {1}});
     prep.u.push_back(Row(rows[0].begin() + K, rows[0].end()));
+    for (int i = 0; i < K; i++) prep.of_p[i].push(prep.p[0][i]);
+    for (int j = 0; j <= Q; j++) prep.of_u[j].push(prep.u[0][j]);
     for (int r = 1; r < (int)rows.size(); r++) {
         prep.p.emplace_back();
         for (int i = 0; i < K; i++) {
-            Sum sum(rows[r][i], m);
-            subtract_all(sum, prep, r, i, i);
-            subtract_crossed(sum, prep, r, i, 0, r);
-            Part part = sum.finish();
+            Part part = less_crossed(prep, rows[r][i], i + 1, i, m);
             for (uint64_t& c : part) c = (Wide)c * prep.p[0][K][0] % m;  // the unit's inverse is 1
+            prep.of_p[i].push(part);
             prep.p[r].push_back(part);
         }
         prep.p[r].push_back(Part(r + 1));
         Row next;
-        for (int j = 0; j <= Q; j++) {
-            Sum sum(rows[r][K + j], m);
-            subtract_all(sum, prep, r, K, K + j);
-            next.push_back(sum.finish());
-        }
+        for (int j = 0; j <= Q; j++) next.push_back(less_crossed(prep, rows[r][K + j], K, K + j, m));
+        for (int j = 0; j <= Q; j++) prep.of_u[j].push(next[j]);
         prep.u.push_back(next);
     }
     return prep;

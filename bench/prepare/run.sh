@@ -10,7 +10,7 @@ crate="$here/../../crates/prepare_speed"
 work=$(mktemp -d)
 trap 'rm -rf "$work"' EXIT
 "$here/../../scripts/build" prepare_speed
-g++ -O2 -std=c++17 -o "$work/compare" "$here/compare.cpp"
+g++ -O3 -march=x86-64-v2 -std=c++17 -o "$work/compare" "$here/compare.cpp"
 
 # the least wall time of nine runs
 least() {
@@ -38,11 +38,11 @@ multiplications() {
     }'
 }
 
-# row DEGREE MODULUS TIMES
+# row DEGREE MODULUS TIMES TIMES-IN-C++
 row() {
     once=$(least "$1" "$2" 1)
     many=$(least "$1" "$2" "$3")
-    "$work/compare" "$1" "$2" 27 >"$work/compared"
+    "$work/compare" "$1" "$2" "$4" >"$work/compared"
     awk -v once="$once" -v many="$many" -v times=$(($3 - 1)) -v count="$(multiplications "$1")" \
         -v head="| $1 | $2" -v printed="$(cat "$work/printed")" 'BEGIN {
             split(printed, proved, " ")
@@ -56,7 +56,8 @@ row() {
 
 echo "| degree | modulus | multiplications | ms | ns each | C++, ns each | to C++ | checksum |"
 echo "|---|---|---|---|---|---|---|---|"
-for modulus in 9223372036854775783 998244353; do
-    row 40 "$modulus" 51
-    row 80 "$modulus" 11
+for modulus in 9223372036854775783 998244353 101; do
+    row 40 "$modulus" 51 27
+    row 80 "$modulus" 11 27
+    row 200 "$modulus" 2 9
 done

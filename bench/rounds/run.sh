@@ -1,6 +1,6 @@
 #!/usr/bin/env bash
-# Times `factor --rounds N` beside `factor` on one script with many roots. It needs rt, and a machine with a processor
-# for each worker that does nothing else.
+# Times `factor --rounds N` beside `factor` on two jobs in two variables. It needs rt, python3, and a machine with a
+# processor for each worker that does nothing else.
 #
 # Each time is the least wall time of five whole runs, from the start of the program to its end, in which the ways take
 # turns. Where two of them print different bytes it fails.
@@ -23,8 +23,8 @@ least() {
     sort -n "$work/$1.times" | sed -n 1p
 }
 
-# row DEGREE: eight roots in two variables, each variable with a number at each power of Y
-row() {
+# eight_roots DEGREE: each variable with a number at each power of Y
+eight_roots() {
     awk -v degree="$1" 'BEGIN {
         for (i = 0; i < 8; i++) {
             poly = poly (i > 0 ? "*" : "") "(Y-" i ")"
@@ -36,7 +36,11 @@ row() {
                 poly = poly " + " number "*" (i == 1 ? "x" : "y") "*Y^" j
             }
         printf "mod 1000003\nvars x y\npoly %s\nroots%s\nshow %d\n", poly, roots, degree
-    }' >"$work/script"
+    }'
+}
+
+# row NAME DEGREE: the script in $work/script
+row() {
     rm -f "$work"/*.times
     for _ in 1 2 3 4 5; do
         clock plain factor
@@ -45,11 +49,17 @@ row() {
             cmp "$work/plain.printed" "$work/rounds$workers.printed"
         done
     done
-    awk -v head="| $1" -v a="$(least plain)" -v b="$(least rounds1)" -v c="$(least rounds2)" -v d="$(least rounds4)" \
-        'BEGIN { printf "%s | %.1f | %.1f | %.1f | %.1f | %.2f |\n", head, a / 1e3, b / 1e3, c / 1e3, d / 1e3, a / d }'
+    awk -v head="| $1 | $2" -v a="$(least plain)" -v b="$(least rounds1)" -v c="$(least rounds2)" \
+        -v d="$(least rounds4)" 'BEGIN {
+            printf "%s | %.1f | %.1f | %.1f | %.1f | %.2f |\n", head, a / 1e3, b / 1e3, c / 1e3, d / 1e3, d / b
+        }'
 }
 
-echo "| to degree | \`factor\` ms | 1 worker | 2 workers | 4 workers | \`factor\` to 4 workers |"
-echo "|---|---|---|---|---|---|"
-row 30
-row 60
+echo "| job | to degree | \`factor\` ms | 1 worker | 2 workers | 4 workers | 4 workers to 1 |"
+echo "|---|---|---|---|---|---|---|"
+for degree in 30 60 120 200; do
+    eight_roots "$degree" >"$work/script"
+    row "eight roots" "$degree"
+done
+"$here/demo_job.py" 7 80 >"$work/script"
+row "\`demo 7\`" 80

@@ -25,7 +25,7 @@ use Rattle.parts.proofs.Polynomials.{modulus_is}
 
 module _ (R : AnyRing) where
   -- a map and a multiple of a formal sum
-  of_map-more : (c : ℕ) (p : FinMap R.compare ℕ) (es : List (R.Key × ℕ))
+  pub of_map-more : (c : ℕ) (p : FinMap R.compare ℕ) (es : List (R.Key × ℕ))
       → map_polynomial R (collected R.compare R.modulus (entries p ++ multiples c es))
       ≡ sum_of R (map_polynomial R p) (scaled_of R c (polynomial R es))
   of_map-more c p es = of_map-collected R _
@@ -36,7 +36,7 @@ module _ (R : AnyRing) where
       ∙ sym (ap (λ n. n % R.modulus) (total-multiples f c es)
       ∙ times-mod R.modulus c c (total f es) (total f es % R.modulus) refl (sym (mod-mod _ _)))) i) % R.modulus))
 
-  products-are : (a b : FinMap R.compare ℕ) → polynomial R (products R.◌⊕◌ (entries a) (entries b))
+  pub products-are : (a b : FinMap R.compare ℕ) → polynomial R (products R.◌⊕◌ (entries a) (entries b))
       ≡ product_of R (map_polynomial R a) (map_polynomial R b)
   products-are a b = sym (of_map-collected R _) ∙ of_map-product R a b
 

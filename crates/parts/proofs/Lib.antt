@@ -20,3 +20,17 @@ pub mod RowsRead
 pub mod Counts
 pub mod Added
 pub mod Accumulated
+pub mod Indicators
+pub mod PairSums
+pub mod SeriesSums
+pub mod PlacesBuilt
+pub mod CrossedPolynomials
+pub mod RowEntries
+pub mod RowTerms
+pub mod SeriesHeld
+pub mod Overlaps
+pub mod LeftValues
+pub mod Differences
+pub mod CrossedParts
+pub mod SeriesRead
+pub mod LeftTerms

@@ -10,4 +10,7 @@ pub mod AccumulatorValue
 pub mod Series
 pub mod RowsOfParts
 pub mod JobRows
+pub mod SeriesParts
+pub mod SeriesRows
+pub mod CrossedEntries
 pub mod Props

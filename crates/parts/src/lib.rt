@@ -20,14 +20,22 @@ mod merging;
 mod sparse;
 mod sums;
 
+// series: rows of coefficients beside the parts, and parts of sums of products
+mod contiguous;
+mod crossed;
+mod row_terms;
+mod series;
+
 // the cells in which products are added up
 mod cells;
 mod places;
 
 pub use arithmetic::{product, scaled, sum};
 pub use counting::{counting_laws, monomials, permitted};
+pub use crossed::{Crossed, less_crossed};
 pub use homogeneous::Part;
 pub use rings::Ring;
+pub use series::Series;
 pub use sharing::share;
 pub use source::RowSource;
 pub use sums::Accumulator;

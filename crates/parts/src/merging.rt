@@ -120,10 +120,10 @@ pub fn scaled_terms(
     ensures { IfOk result (λ terms. IsTotal ring degree
         (multiples c (map_list entry_of a.now)) terms.items) }
 {
-    let m = u128::from(ring.modulus().value());
+    let modulus = ring.modulus();
     let mut terms = Vec::new(alloc);
     for t in a {
-        let coefficient = (u128::from(c) * u128::from(t.coefficient) % m) as u64;
+        let coefficient = modulus.reduce_wide(u128::from(c) * u128::from(t.coefficient));
         let term = Term {
             monomial: t.monomial,
             coefficient,

@@ -24,7 +24,7 @@ const FEW_CELLS: usize = 1 << 20;
 const MOST_CELLS: usize = 1 << 24;
 
 /// What a place counts for each power, and the number of places; None where there are too many.
-fn make_sizes(degree: u32, weights: &[u16], sizes: &mut [usize]) -> Option<usize>
+pub fn make_sizes(degree: u32, weights: &[u16], sizes: &mut [usize]) -> Option<usize>
     requires as_many { length weights.now ≡ length sizes.old }
     requires positive { All (λ w. 0 < w) weights.now }
     ensures count { IfSome result (λ count. count ≡ size degree weights.now) }
@@ -208,7 +208,7 @@ pub fn collect_terms(
     let mut terms = Vec::new(alloc);
     for k in 0..cells.len() {
         let at = cells.len() - 1 - k;
-        let coefficient = (cells[at] % u128::from(modulus.value())) as u64;
+        let coefficient = modulus.reduce_wide(cells[at]);
         if coefficient != 0 {
             let mut powers = [0; 8];
             if fill_powers(&mut powers[..n], weights, sizes, degree, at) {

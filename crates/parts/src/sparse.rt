@@ -29,10 +29,10 @@ fn row_terms(
     ensures { IfOk result (λ row. IsTotal ring (left + right)
         (row_of (key_of x.now.monomial) c terms.now) row.items) }
 {
-    let m = u128::from(ring.modulus().value());
+    let modulus = ring.modulus();
     let mut row = Vec::new(alloc);
     for t in terms {
-        let coefficient = (u128::from(c) * u128::from(t.coefficient) % m) as u64;
+        let coefficient = modulus.reduce_wide(u128::from(c) * u128::from(t.coefficient));
         let term = Term {
             monomial: x.monomial.times(&t.monomial),
             coefficient,

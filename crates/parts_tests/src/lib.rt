@@ -8,6 +8,8 @@ mod homogeneous_parts;
 mod larger_parts;
 #[cfg(test)]
 mod residues;
+#[cfg(test)]
+mod series;
 
 // `rows`
 #[cfg(test)]

@@ -18,7 +18,9 @@ use Rattle.parts.specs.Rings.{modulus_of}
 use Rattle.parts.specs.declared.rings.Ring.{Ring}
 use Rattle.prepare.specs.Calls.{HasNoneBelow, IsPowerOfY, Begins}
 use Rattle.prepare.specs.PrepValue.{PrepValue, IsPrep}
-use Rattle.parts.specs.RowsOfParts.{nothing, part_in, IsRowOfParts, AreRowsOfParts}
+use Rattle.prepare.specs.Columns.{AreColumns, HasSeries}
+use Rattle.parts.specs.RowsOfParts.{nothing, part_in, AreParts, IsRowOfParts, AreRowsOfParts}
+use Rattle.parts.specs.SeriesParts.{SeriesValue}
 use Rattle.parts.specs.Series.{constant_of, polynomial_modulo, series, polynomial_in, row_maps}
 use Rattle.parts.proofs.Polynomials.{modulus_is, polynomial_in-empty, part_of-row}
 use Rattle.parts.proofs.RowSlices.{row_is}
@@ -146,3 +148,31 @@ module _ (ring : Ring) (k q inverse : ℕ) (row row_p : List PartValue) (some : 
           begins =
               begins;
         }))
+
+-- the parts of a row from one place on
+pub rest_parts : (ring : Ring) (K k : ℕ) (row : List PartValue) → IsRowOfParts ring K 0 row
+    → AreParts ring 0 (drop k row)
+rest_parts ring K k row is i d lt = subst (λ (p : PartValue). (p.degree ≡ 0) × IsPartOf ring p)
+    (sym (get_or-drop k row i d)) (is.degrees (k + i) d within, is.parts (k + i) d within)
+  where
+    within : k + i < length row
+    within = omega (arith, length-drop k row)
+
+-- and the series of one part each
+pub series_with : (ring : Ring) (k q : ℕ) (row row_p : List PartValue) → k + q + 1 ≡ length row
+    → IsPowerOfY ring k row_p → (rows_p rows_u : List (List PartValue)) (a w : List SeriesValue) (n : ℕ)
+    → rows_p ≡ row_p ∷ [] → rows_u ≡ drop k row ∷ [] → n ≡ length (drop k row) → AreColumns ring k (row_p ∷ []) a
+    → AreColumns ring n (drop k row ∷ []) w
+    → HasSeries (record { ring = ring; k = k; q = q; rows_p = rows_p; rows_u = rows_u }) a w
+series_with ring k q row row_p q_is p_is rows_p rows_u a w n ps us count of_p of_u =
+    subst (λ (t : List (List PartValue)).
+    HasSeries (record { ring = ring; k = k; q = q; rows_p = t; rows_u = rows_u }) a w) (sym ps)
+    (subst (λ (t : List (List PartValue)).
+    HasSeries (record { ring = ring; k = k; q = q; rows_p = row_p ∷ []; rows_u = t }) a w) (sym us) (record {
+      of_p = of_p;
+      of_u = subst (λ m. AreColumns ring m (drop k row ∷ []) w) many of_u;
+      none = λ i lt. p_is.none i lt;
+    }))
+  where
+    many : n ≡ suc q
+    many = omega (arith, count, length-drop k row)

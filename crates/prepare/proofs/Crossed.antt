@@ -1,16 +1,11 @@
--- Crossed products of parts in rows.
-use Rattle.std.proofs.Common.{◌≡◌, ℕ, suc, ◌-◌, ◌<◌, ◌≤◌, ◌⊎◌, inl, inr, List, [], length, get_or, ◌∙◌, ap}
+-- Slices past the end of their rows.
+use Rattle.std.proofs.Common.{◌≡◌, ℕ, ◌<◌, ◌≤◌, ◌⊎◌, inl, inr, List, [], length, get_or, ◌∙◌, ap}
 use Rattle.std.proofs.Common.{arith}
 use Rattle.std.proofs.lemmas.Bool.{cases_lt}
 use Rattle.std.proofs.Math.ListN.{get_or-eq_default}
-use Rattle.ps_model.specs.Notation.{zero as nought, product}
-use Rattle.ps_model.specs.Recurrences.{crossed_product}
-use Rattle.ps_model.specs.SeriesRing.{ring as ring_of, Poly}
-use Rattle.ps_model.proofs.RingLaws.{product-zero}
-use Rattle.ps_model.proofs.SumsBetween.{sum_between-zero}
+use Rattle.ps_model.specs.Notation.{zero as nought}
 use Rattle.parts.specs.PartValue.{PartValue}
 use Rattle.parts.specs.RowsOfParts.{nothing, part_in, AreRowsOfParts}
-use Rattle.parts.specs.Series.{series}
 use Rattle.parts.specs.declared.rings.Ring.{Ring}
 use Rattle.parts.proofs.Polynomials.{part_at-rows, polynomial_in-empty}
 use Rattle.prepare.specs.Recurrence.{poly, slices}
@@ -24,14 +19,7 @@ part_beyond ring q rows are s h lt = get_or-eq_default (get_or rows s []) nothin
     short (inl low) = let row = are s low in omega (arith, row.places)
     short (inr high) = omega (arith, ap (length {A = PartValue}) (get_or-eq_default rows [] high))
 
-slice_beyond : (ring : Ring) (q : ℕ) (rows : List (List PartValue)) → AreRowsOfParts ring q rows → (s h : ℕ)
+pub slice_beyond : (ring : Ring) (q : ℕ) (rows : List (List PartValue)) → AreRowsOfParts ring q rows → (s h : ℕ)
     → q < h → slices ring rows s h ≡ nought
 slice_beyond ring q rows are s h lt = part_at-rows ring rows s h ∙ ap (poly ring) (part_beyond ring q rows are s h lt)
     ∙ polynomial_in-empty ring
-
--- with a place of u past its last
-pub crossed_beyond : (ring : Ring) (q r : ℕ) (a : ℕ → ℕ → Poly (series ring)) (rows : List (List PartValue))
-    → AreRowsOfParts ring q rows → (i h : ℕ) → q < h → crossed_product r a (slices ring rows) i h ≡ nought
-crossed_beyond ring q r a rows are i h lt = sum_between-zero (ring_of (series ring)) 1 (suc r) _
-    (λ s _ _. ap (product (a s i)) (slice_beyond ring q rows are (r - s) h lt)
-    ∙ product-zero (ring_of (series ring)) (a s i))

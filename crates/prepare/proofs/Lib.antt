@@ -1,9 +1,10 @@
 pub mod RowsRead
 pub mod Begun
-pub mod Differences
 pub mod Places
-pub mod Taken
 pub mod Crossed
 pub mod Grown
 pub mod NextRows
 pub mod Stepped
+pub mod Columns
+pub mod CutBack
+pub mod NextParts

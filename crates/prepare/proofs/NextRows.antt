@@ -1,20 +1,13 @@
 -- The rows of the next degree, once they are whole.
-use Rattle.std.proofs.Common.{◌≡◌, ℕ, ◌+◌, ◌-◌, List, [], ◌∷◌, ◌++◌, length, sym, ◌∙◌, ap, subst, arith}
+use Rattle.std.proofs.Common.{◌≡◌, ℕ, ◌+◌, List, [], ◌∷◌, ◌++◌, length, sym, ◌∙◌, ap, subst, arith}
 use Rattle.std.proofs.lemmas.List.{length_push}
 use Rattle.std.specs.FinMap.{FinMap, empty, entries, len-empty, len-entries}
-use Rattle.ps_model.specs.FiniteMaps.{scale_map}
 use Rattle.ps_model.specs.Keys.{key_compare}
-use Rattle.ps_model.specs.Notation.{sum, difference, product, sum_between}
-use Rattle.ps_model.specs.Recurrences.{crossed_product}
-use Rattle.parts.specs.AccumulatorValue.{AccumulatorValue, after_multiple}
 use Rattle.parts.specs.PartValue.{PartValue, IsPartOf}
-use Rattle.parts.specs.Rings.{modulus_of}
 use Rattle.parts.specs.RowsOfParts.{part_in, IsRowOfParts}
 use Rattle.parts.specs.declared.rings.Ring.{Ring}
-use Rattle.prepare.specs.Recurrence.{poly, slices, Subtracts, next_p, next_u, IsNextOfP, IsNextOfU}
+use Rattle.prepare.specs.Recurrence.{poly, next_p, next_u, IsNextOfP, IsNextOfU}
 use Rattle.prepare.proofs.Grown.{IsSoFar, so_far-row, are_more, early, last_one, next_p-same}
-use Rattle.prepare.proofs.Places.{IsPartAt}
-use Rattle.prepare.proofs.Taken.{Holds, holds-first, holds-less, holds-both, holds-part, scaled-part}
 
 -- the row of u
 pub next_u-done : (ring : Ring) (k q n : ℕ) (rows_p rows_u : List (List PartValue)) (row last next : List PartValue)
@@ -27,39 +20,6 @@ next_u-done ring k q n rows_p rows_u row last next j count end is =
       row_is = so_far-row ring (length rows_p) q next (omega (arith, so_far.places)) so_far.parts;
       parts = λ i le. so_far.are i (omega arith);
     }
-
--- a part of p, from what the accumulator was
-pub next_p-part : (ring : Ring) (e n : ℕ) (rows_p rows_u : List (List PartValue)) (row last a b : List PartValue)
-    (i : ℕ) (none first second third : AccumulatorValue) (given whole x : PartValue)
-    → none ≡ record { ring = ring; degree = n; map = empty } → first ≡ after_multiple none 1 given
-    → a ≡ last → b ≡ last
-    → Subtracts ring first second (sum_between 0 i (λ h. crossed_product n (slices ring (rows_p ++ a ∷ []))
-    (slices ring rows_u) h (i - h)))
-    → Subtracts ring second third (sum_between 1 n (λ s. product (slices ring (rows_p ++ b ∷ []) s i)
-    (slices ring rows_u (n - s) 0)))
-    → given ≡ part_in row i → whole.degree ≡ third.degree → whole.map ≡ third.map → IsPartOf third.ring whole
-    → x.degree ≡ whole.degree → x.map ≡ scale_map (key_compare 8) (modulus_of ring) e whole.map → IsPartOf ring x
-    → IsPartAt ring n x × (poly ring x ≡ next_p ring e n rows_p rows_u row last i)
-next_p-part ring e n rows_p rows_u row last a b i none first second third given whole x none_is first_is a_is b_is
-    taken_all taken_crossed given_is degree map part x_degree x_map x_part =
-    let all : Subtracts ring first second (sum_between 0 i (λ h. crossed_product n
-    (slices ring (rows_p ++ last ∷ [])) (slices ring rows_u) h (i - h))) =
-    subst (λ (t : List PartValue). Subtracts ring first second (sum_between 0 i (λ h. crossed_product n
-    (slices ring (rows_p ++ t ∷ [])) (slices ring rows_u) h (i - h)))) a_is taken_all in
-    let crossed : Subtracts ring second third (sum_between 1 n (λ s. product
-    (slices ring (rows_p ++ last ∷ []) s i) (slices ring rows_u (n - s) 0))) =
-    subst (λ (t : List PartValue). Subtracts ring second third (sum_between 1 n (λ s. product
-    (slices ring (rows_p ++ t ∷ []) s i) (slices ring rows_u (n - s) 0)))) b_is taken_crossed in
-    let start : Holds ring n first (poly ring (part_in row i)) =
-    subst (λ (t : PartValue). Holds ring n first (poly ring t)) given_is
-    (holds-first ring n none first given none_is first_is) in
-    scaled-part ring n e (difference (poly ring (part_in row i)) (sum
-    (sum_between 0 i (λ h. crossed_product n (slices ring (rows_p ++ last ∷ [])) (slices ring rows_u) h (i - h)))
-    (sum_between 1 n (λ s. product (slices ring (rows_p ++ last ∷ []) s i) (slices ring rows_u (n - s) 0)))))
-    whole x
-    (holds-part ring n third _ whole
-    (holds-both ring n third _ _ _ (holds-less ring n second third _ _ (holds-less ring n first second _ _ start all)
-    crossed)) degree map part) x_degree x_map x_part
 
 -- the row of p
 pub next_p-done : (ring : Ring) (k e n : ℕ) (rows_p rows_u : List (List PartValue)) (row last next : List PartValue)

@@ -20,6 +20,7 @@ use Rattle.parts.specs.declared.rings.Ring.{Ring}
 use Rattle.parts.proofs.Polynomials.{modulus_is, part_at-rows, part_of-row, polynomial_in-empty}
 use Rattle.parts.proofs.RowSlices.{row_is, rows_are}
 use Rattle.prepare.specs.Calls.{Adds}
+use Rattle.prepare.specs.Columns.{HasNext, HasNoneAtStart}
 use Rattle.prepare.specs.PrepValue.{PrepValue, IsPrep, degrees_of}
 use Rattle.prepare.specs.Recurrence.{poly, slices, next_p, next_u, IsNextOfP, IsNextOfU}
 
@@ -43,7 +44,7 @@ at_end ring rows last n j count = part_at-rows ring (rows ++ last ∷ []) n j
     ∙ get_or-append_seam rows last [] [])
 
 -- a slice of an earlier one
-at_early : (ring : Ring) (rows : List (List PartValue)) (last : List PartValue) (s j : ℕ) → s < length rows
+pub at_early : (ring : Ring) (rows : List (List PartValue)) (last : List PartValue) (s j : ℕ) → s < length rows
     → slices ring rows s j ≡ slices ring (rows ++ last ∷ []) s j
 at_early ring rows last s j lt = part_at-rows ring rows s j
     ∙ ap (λ (t : List PartValue). poly ring (part_in t j)) (sym (get_or_append_left rows (last ∷ []) [] s lt))
@@ -188,38 +189,44 @@ module _ (prep : PrepValue) (inverse : ℕ) (is : IsPrep prep inverse) (row row_
       last : suc (length prep.rows_p - 1) ≡ length (prep.rows_p ++ row_p ∷ []) - 1
       last = let begun = is.begun in omega (arith, more_p)
 
--- what a step gives, under the names that a caller has for the lists
-pub record IsStepped (old : PrepValue) (inverse : ℕ) (row : List PartValue) (new_p new_u : List (List PartValue))
-    : Type 0 where
-  pub is_prep : degrees_of old ≤ 4095
-      → IsPrep (record { ring = old.ring; k = old.k; q = old.q; rows_p = new_p; rows_u = new_u }) inverse
-  pub adds : (seen : PrepValue) → old ≡ seen
-      → Adds row seen (record { ring = old.ring; k = old.k; q = old.q; rows_p = new_p; rows_u = new_u })
+-- what a step gives
+module _ (old new : PrepValue) (inverse : ℕ) (row : List PartValue) (is : IsPrep old inverse)
+    (next_is : HasNext old new inverse row) where
+  pub next_prep : degrees_of old ≤ 4095 → IsPrep new inverse
+  next_prep le = subst (λ (t : PrepValue). IsPrep t inverse) (sym next_is.new_is)
+      (stepped old inverse is row next_is.row_p next_is.row_u next_is.p_is next_is.u_is le)
 
-module _ (old : PrepValue) (inverse : ℕ) (is : IsPrep old inverse) (row row_p row_u last : List PartValue)
-    (read_p read_u new_p new_u : List (List PartValue)) (p_read : read_p ≡ old.rows_p) (u_read : read_u ≡ old.rows_u)
-    (last_is : last ≡ row_p) (p_is : IsNextOfP old.ring old.k inverse read_p read_u row row_p)
-    (u_is : IsNextOfU old.ring old.k old.q read_p last read_u row row_u)
-    (p_new : new_p ≡ old.rows_p ++ row_p ∷ []) (u_new : new_u ≡ old.rows_u ++ row_u ∷ []) where
-  abbrev grown : PrepValue
-  grown = record { ring = old.ring; k = old.k; q = old.q; rows_p = new_p; rows_u = new_u }
+  pub next_adds : (seen : PrepValue) → old ≡ seen → Adds row seen new
+  next_adds seen same = subst (λ (t : PrepValue). Adds row t new) same
+      (subst (Adds row old) (sym next_is.new_is)
+      (adds old inverse is row next_is.row_p next_is.row_u next_is.p_is next_is.u_is))
 
-  grown_is : record old { rows_p = old.rows_p ++ row_p ∷ []; rows_u = old.rows_u ++ row_u ∷ [] } ≡ grown
-  grown_is = λ l. record { ring = old.ring; k = old.k; q = old.q; rows_p = sym p_new l; rows_u = sym u_new l }
+  -- the row of degree 0 stays
+  pub next_none : HasNoneAtStart old.k old.rows_p → HasNoneAtStart old.k new.rows_p
+  next_none none = subst (λ (t : PrepValue). HasNoneAtStart old.k t.rows_p) (sym next_is.new_is)
+      (λ i lt. ap (λ (t : List PartValue). (part_in t i).map)
+      (get_or_append_left old.rows_p (next_is.row_p ∷ []) [] 0 (let some = is.begun in omega arith)) ∙ none i lt)
 
-  by_p : IsNextOfP old.ring old.k inverse old.rows_p old.rows_u row row_p
-  by_p = subst (λ (t : List (List PartValue)). IsNextOfP old.ring old.k inverse t old.rows_u row row_p) p_read
-      (subst (λ (t : List (List PartValue)). IsNextOfP old.ring old.k inverse read_p t row row_p) u_read p_is)
+-- the rows that the recurrences give, pushed
+pub has_next : (ring : Ring) (k q e : ℕ) (rows_p grown_p rows_u : List (List PartValue))
+    (row row_p last row_u : List PartValue) (new_p new_u : List (List PartValue)) → grown_p ≡ rows_p → last ≡ row_p →
+    IsNextOfP ring k e rows_p rows_u row row_p → IsNextOfU ring k q grown_p last rows_u row row_u →
+    new_p ≡ rows_p ++ row_p ∷ [] → new_u ≡ rows_u ++ row_u ∷ [] →
+    HasNext (record { ring = ring; k = k; q = q; rows_p = rows_p; rows_u = rows_u })
+    (record { ring = ring; k = k; q = q; rows_p = new_p; rows_u = new_u }) e row
+has_next ring k q e rows_p grown_p rows_u row row_p last row_u new_p new_u same_p same_last p_is u_is p_more u_more =
+    record {
+      row_p = row_p;
+      row_u = row_u;
+      p_is = p_is;
+      u_is = subst (λ (t : List PartValue). IsNextOfU ring k q rows_p t rows_u row row_u) same_last
+          (subst (λ (t : List (List PartValue)). IsNextOfU ring k q t last rows_u row row_u) same_p u_is);
+      new_is = λ l. record { ring = ring; k = k; q = q; rows_p = p_more l; rows_u = u_more l };
+    }
 
-  by_u : IsNextOfU old.ring old.k old.q old.rows_p row_p old.rows_u row row_u
-  by_u = subst (λ (t : List (List PartValue)). IsNextOfU old.ring old.k old.q t row_p old.rows_u row row_u) p_read
-      (subst (λ (t : List PartValue). IsNextOfU old.ring old.k old.q read_p t old.rows_u row row_u) last_is
-      (subst (λ (t : List (List PartValue)). IsNextOfU old.ring old.k old.q read_p last t row row_u) u_read u_is))
-
-  pub stepped_with : IsStepped old inverse row new_p new_u
-  stepped_with = record {
-    is_prep = λ le. subst (λ (t : PrepValue). IsPrep t inverse) grown_is
-        (stepped old inverse is row row_p row_u by_p by_u le);
-    adds = λ seen same. subst (λ (t : PrepValue). Adds row t grown) same
-        (subst (Adds row old) grown_is (adds old inverse is row row_p row_u by_p by_u));
-  }
+-- the rows, and so the invariant, stay where a step is refused
+pub same_prep : (ring : Ring) (k q e : ℕ) (old_p new_p old_u new_u : List (List PartValue)) → new_p ≡ old_p →
+    new_u ≡ old_u → IsPrep (record { ring = ring; k = k; q = q; rows_p = old_p; rows_u = old_u }) e →
+    IsPrep (record { ring = ring; k = k; q = q; rows_p = new_p; rows_u = new_u }) e
+same_prep ring k q e old_p new_p old_u new_u same_p same_u is = subst (λ (t : PrepValue). IsPrep t e)
+    (λ l. record { ring = ring; k = k; q = q; rows_p = sym same_p l; rows_u = sym same_u l }) is

@@ -1,4 +1,5 @@
 pub mod PrepValue
 pub mod Calls
 pub mod Recurrence
+pub mod Columns
 pub mod ErrorText

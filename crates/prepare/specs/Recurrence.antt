@@ -1,7 +1,6 @@
 -- The rows of the next degree, by the recurrences.
 --     poly ring p      the polynomial of a part
 --     slices ring rows s j      that of the part at place j of row s, 0 past the ends
---     Subtracts ring old new p      the sum new is the sum old less p
 --     next_p ring e n rows_p rows_u row last i      what the recurrence gives for p at Y^i of degree n: the
 --         row of degree n of the input is row, and last has the parts of p before
 --     next_u ring k n rows_p rows_u row last j      the same for u at Y^j, where last is the row of p
@@ -13,7 +12,6 @@ use Rattle.ps_model.specs.Notation.{sum, scaled, difference, product, sum_betwee
 use Rattle.ps_model.specs.Recurrences.{crossed_product}
 use Rattle.ps_model.specs.Rows.{part_at}
 use Rattle.ps_model.specs.SeriesRing.{ring as ring_of, Poly}
-use Rattle.parts.specs.AccumulatorValue.{AccumulatorValue}
 use Rattle.parts.specs.PartValue.{PartValue}
 use Rattle.parts.specs.declared.rings.Ring.{Ring}
 use Rattle.parts.specs.RowsOfParts.{part_in, IsRowOfParts}
@@ -24,11 +22,6 @@ poly ring p = polynomial_in ring p.map
 
 abbrev pub slices : (ring : Ring) → List (List PartValue) → ℕ → ℕ → Poly (series ring)
 slices ring rows = part_at (ring_of (series ring)) (rows_maps ring rows)
-
-pub record Subtracts (ring : Ring) (old new : AccumulatorValue) (p : Poly (series ring)) : Type 0 where
-  pub ring_is : new.ring ≡ old.ring
-  pub degree_is : new.degree ≡ old.degree
-  pub sum_is : polynomial_in ring new.map ≡ difference (polynomial_in ring old.map) p
 
 -- p at Y^i of degree n; e is the inverse of the constant term of u
 abbrev pub next_p : (ring : Ring) → ℕ → ℕ → (rows_p rows_u : List (List PartValue)) → (row last : List PartValue) → ℕ

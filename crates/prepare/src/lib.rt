@@ -3,6 +3,7 @@
 #![tactic(auto)]
 
 mod error;
+mod factor;
 mod first;
 mod prep;
 mod recurrence;

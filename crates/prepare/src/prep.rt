@@ -5,8 +5,9 @@ ghost use Rattle.parts.specs.RowsOfParts.{parts_of, IsRowOfParts};
 ghost use Rattle.prepare.specs.PrepValue.{degrees_of};
 
 use crate::error::PrepError;
+use crate::factor::{Factor, begun};
 use crate::first::{constant_term, lowest_below, power_of_y};
-use crate::recurrence::{Known, next_of_p, next_of_u};
+use crate::recurrence::{Given, add_degree};
 use crate::tally::Tally;
 use parts::{Part, Ring, share};
 use ps_model::OutOfMemory;
@@ -27,11 +28,14 @@ pub struct Prep {
     k: u32,
     q: u32,
     inverse: u64,
-    rows_p: Vec<Vec<Arc<Part>>>,
-    rows_u: Vec<Vec<Arc<Part>>>,
+    /// p, with the series of its coefficients below Y^k.
+    p: Factor,
+    /// u, with the series of all its coefficients.
+    u: Factor,
 }
 
 impl Model for Prep {
+    ghost use Rattle.prepare.specs.Columns.{HasSeries};
     ghost use Rattle.prepare.specs.PrepValue.{PrepValue, prep_code, IsPrep};
 
     ghost Value = { PrepValue };
@@ -44,17 +48,23 @@ impl Model for Prep {
       ring = prep.ring;
       k = prep.k;
       q = prep.q;
-      rows_p = parts_in prep.rows_p.items;
-      rows_u = parts_in prep.rows_u.items;
+      rows_p = parts_in prep.p.rows.items;
+      rows_u = parts_in prep.u.rows.items;
     } };
 
     ghost invariant = { λ prep. IsPrep (record {
       ring = prep.ring;
       k = prep.k;
       q = prep.q;
-      rows_p = parts_in prep.rows_p.items;
-      rows_u = parts_in prep.rows_u.items;
-    }) prep.inverse };
+      rows_p = parts_in prep.p.rows.items;
+      rows_u = parts_in prep.u.rows.items;
+    }) prep.inverse × HasSeries (record {
+      ring = prep.ring;
+      k = prep.k;
+      q = prep.q;
+      rows_p = parts_in prep.p.rows.items;
+      rows_u = parts_in prep.u.rows.items;
+    }) prep.p.series.items prep.u.series.items };
 }
 
 impl Prep {
@@ -118,18 +128,28 @@ impl Prep {
             % modulus_of ring ≡ 1 }
         ensures { IfOk result (Begins ring k (parts_of row0.now)) }
     {
+        let row_p = power_of_y(alloc, ring, k)?;
+        let row_u = share(alloc, &row0[k as usize..])?;
+        let series_p = begun(alloc, ring, &row_p, k as usize)?;
+        let series_u = begun(alloc, ring, &row_u, row_u.len())?;
         let mut rows_p = Vec::new(alloc);
-        rows_p.push(power_of_y(alloc, ring, k)?)?;
+        rows_p.push(row_p)?;
         let mut rows_u = Vec::new(alloc);
-        rows_u.push(share(alloc, &row0[k as usize..])?)?;
+        rows_u.push(row_u)?;
         Ok(Prep {
             alloc,
             ring,
             k,
             q: row0.len() as u32 - 1 - k,
             inverse,
-            rows_p,
-            rows_u,
+            p: Factor {
+                rows: rows_p,
+                series: series_p,
+            },
+            u: Factor {
+                rows: rows_u,
+                series: series_u,
+            },
         })
     }
 
@@ -146,21 +166,14 @@ impl Prep {
         ensures ticks { OnOk result (tally.new ≡ tally.old + 1) }
         ensures no_tick { OnErr result (tally.new ≡ tally.old) }
     {
-        let known = Known {
+        let given = Given {
             alloc: self.alloc,
             ring: self.ring,
             k: self.k as usize,
             q: self.q as usize,
-            rows_p: &self.rows_p,
-            rows_u: &self.rows_u,
+            inverse: self.inverse,
         };
-        let row_p = next_of_p(&known, self.inverse, row)?;
-        let row_u = next_of_u(&known, &row_p, row)?;
-        self.rows_p.push(row_p)?;
-        if self.rows_u.push(row_u).is_err() {
-            let _ = self.rows_p.pop();
-            return Err(OutOfMemory);
-        }
+        add_degree(&given, &mut self.p, &mut self.u, row)?;
         tally.tick();
         Ok(())
     }
@@ -171,7 +184,7 @@ impl Prep {
         ensures begun { 1 ≤ result }
         ensures permitted { result ≤ 4096 }
     {
-        self.rows_p.len() as u32
+        self.p.rows.len() as u32
     }
 
     /// The parts of degree r of the polynomial, from Y^0 to Y^k.
@@ -180,7 +193,7 @@ impl Prep {
         ensures row { parts_of result.now ≡ slice_index_or self.now.rows_p r [] }
         ensures parts { IsRowOfParts self.now.ring self.now.k r (parts_of result.now) }
     {
-        &self.rows_p[r as usize]
+        &self.p.rows[r as usize]
     }
 
     /// The parts of degree r of the unit, from Y^0 to Y^q.
@@ -189,6 +202,6 @@ impl Prep {
         ensures row { parts_of result.now ≡ slice_index_or self.now.rows_u r [] }
         ensures parts { IsRowOfParts self.now.ring self.now.q r (parts_of result.now) }
     {
-        &self.rows_u[r as usize]
+        &self.u.rows[r as usize]
     }
 }

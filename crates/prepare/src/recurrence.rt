@@ -9,174 +9,270 @@
 //!     - sum over 0 < s < r of a_i(s) * w_0(r-s))
 //! w_j(r) = b_(k+j)(r) - sum over i < k of (a_i * w_(k+j-i))(r)
 //!
-//! Since each a_h(0) is 0, (a_h * w_j)(r) is the sum over 0 < s <= r of a_h(s) * w_j(r-s).
-ghost use Rattle.std.specs.Prelude.{◌≡◌, ◌+◌, ◌-◌, ◌<◌, ◌≤◌, length, IfOk};
-ghost use Rattle.std.specs.Prelude.{OnOk, slice_index_or, ◌++◌, ◌∷◌, []};
-ghost use Rattle.ps_model.specs.Notation.{product, sum_between};
-ghost use Rattle.ps_model.specs.Recurrences.{crossed_product};
+//! Since each a_h(0) is 0, (a_h * w_j)(r) is the sum over 0 < s <= r of a_h(s) * w_j(r-s). A part that
+//! isn't there yet counts as 0: so each new part is one of b_l less the part of degree r at Y^l of the
+//! product of the series of p below Y^k, so far as they are there, and those of u.
+ghost use Rattle.std.specs.Prelude.{◌≡◌, suc, ◌+◌, ◌<◌, ◌≤◌, ◌++◌, ◌∷◌, [], length, IfOk};
+ghost use Rattle.std.specs.Prelude.{OnOk, OnErr};
+ghost use Rattle.std.specs.Arc.{arc_value};
+ghost use Rattle.parts.specs.PartValue.{IsPartOf};
 ghost use Rattle.parts.specs.Rings.{modulus_of};
-ghost use Rattle.parts.specs.RowsOfParts.{parts_of, parts_in, part_in};
-ghost use Rattle.parts.specs.RowsOfParts.{IsRowOfParts, AreParts, AreRowsOfParts};
-ghost use Rattle.prepare.specs.Recurrence.{slices, Subtracts, IsNextOfP, IsNextOfU};
+ghost use Rattle.parts.specs.RowsOfParts.{parts_of, parts_in, IsRowOfParts, AreRowsOfParts};
+ghost use Rattle.parts.specs.SeriesParts.{AreOver, IsLessCrossed};
+ghost use Rattle.prepare.specs.Columns.{AreColumns, AreBegun, HasNoneAtStart, HasNext, HasSeries};
+ghost use Rattle.prepare.specs.PrepValue.{IsPrep};
+ghost use Rattle.prepare.specs.Recurrence.{IsNextOfP, IsNextOfU};
 
-use parts::{Accumulator, Part, Ring, scaled};
+use crate::factor::{Factor, cut_back};
+use parts::{Crossed, Part, Ring, Series, less_crossed};
 use ps_model::OutOfMemory;
 use std::alloc::Global;
 use std::sync::Arc;
 
-/// What is there before the degree r: row s of p has a_0(s), .., a_k(s), where a_k is 1, and row s
-/// of u has w_0(s), .., w_q(s), for s below r. So r is the number of the rows.
+/// What stays the same: p has degree k in Y, u no power above q, and `inverse` is w_0(0)^-1.
 #[derive(Clone, Copy)]
-pub struct Known<'a> {
+pub struct Given {
     pub alloc: Global,
     pub ring: Ring,
     pub k: usize,
     pub q: usize,
-    pub rows_p: &'a [Vec<Arc<Part>>],
-    pub rows_u: &'a [Vec<Arc<Part>>],
+    pub inverse: u64,
 }
 
-/// a_i(s), for s up to r. `last` is row r of p, as far as it is made.
-fn at<'a>(rows: &'a [Vec<Arc<Part>>], last: &'a [Arc<Part>], s: usize, i: usize) -> &'a Part
-    requires row { s ≤ length rows.now }
-    requires place { i < length
-        (slice_index_or (parts_in rows.now ++ parts_of last.now ∷ []) s []) }
-    ensures { result.now
-        ≡ part_in (slice_index_or (parts_in rows.now ++ parts_of last.now ∷ []) s []) i }
+/// factor times what is left of a part, to be shared.
+fn next_part(
+    given: &Given,
+    start: &Part,
+    left: &[Series],
+    right: &[Series],
+    power: usize,
+    factor: u64,
+) -> Result<Arc<Part>, OutOfMemory>
+    requires start { IsPartOf given.now.ring start.now }
+    requires permitted { start.now.degree ≤ 4095 }
+    requires left { AreOver given.now.ring left.now }
+    requires right { AreOver given.now.ring right.now }
+    requires places { length left.now ≤ power + 1 }
+    requires residue { factor < modulus_of given.now.ring }
+    ensures { IfOk result (λ part. IsLessCrossed given.now.ring start.now left.now right.now power
+        factor (arc_value part)) }
 {
-    if s < rows.len() {
-        &rows[s][i]
-    } else {
-        &last[i]
-    }
+    let crossed = Crossed { left, right, power };
+    let part = less_crossed(given.alloc, given.ring, start, &crossed, factor)?;
+    Ok(Arc::new(given.alloc, part)?)
 }
 
-/// Subtracts the sum over 0 < s < end of a_i(s) * w_j(r-s). `last` is row r of p, as far as it is
-/// made.
-fn subtract_crossed(
-    sum: &mut Accumulator,
-    known: &Known,
-    last: &[Arc<Part>],
-    i: usize,
-    j: usize,
-    end: usize,
-) -> Result<(), OutOfMemory>
-    requires same { length known.now.rows_u.now ≡ length known.now.rows_p.now }
-    requires start { 1 ≤ end }
-    requires end { end ≤ length known.now.rows_p.now + 1 }
-    requires p_rows { AreRowsOfParts known.now.ring known.now.k (parts_in known.now.rows_p.now) }
-    requires u_rows { AreRowsOfParts known.now.ring known.now.q (parts_in known.now.rows_u.now) }
-    requires last { AreParts known.now.ring (length known.now.rows_p.now) (parts_of last.now) }
-    requires last_place { end ≡ length known.now.rows_p.now + 1 → i < length last.now }
-    requires places { (i ≤ known.now.k) × (j ≤ known.now.q) }
-    requires ring { sum.old.ring ≡ known.now.ring }
-    requires degree { sum.old.degree ≡ length known.now.rows_p.now }
-    ensures { OnOk result (Subtracts known.now.ring sum.old sum.new (sum_between 1 end (λ s. product
-        (slices known.now.ring (parts_in known.now.rows_p.now ++ parts_of last.now ∷ []) s i)
-        (slices known.now.ring (parts_in known.now.rows_u.now)
-        (length known.now.rows_p.now - s) j)))) }
-{
-    let r = known.rows_p.len();
-    for s in 1..end {
-        sum.add_product(at(known.rows_p, last, s, i), &known.rows_u[r - s][j], true)?;
-    }
-    Ok(())
-}
-
-/// Subtracts the sum over h < count of (a_h * w_(l-h))(r). `last` is row r of p, as far as it is
-/// made.
-fn subtract_all(
-    sum: &mut Accumulator,
-    known: &Known,
-    last: &[Arc<Part>],
-    count: usize,
-    l: usize,
-) -> Result<(), OutOfMemory>
-    requires same { length known.now.rows_u.now ≡ length known.now.rows_p.now }
-    requires permitted { length known.now.rows_p.now ≤ 4095 }
-    requires p_rows { AreRowsOfParts known.now.ring known.now.k (parts_in known.now.rows_p.now) }
-    requires u_rows { AreRowsOfParts known.now.ring known.now.q (parts_in known.now.rows_u.now) }
-    requires last { AreParts known.now.ring (length known.now.rows_p.now) (parts_of last.now) }
-    requires counts { (count ≤ known.now.k) × (count ≤ length last.now) × (count ≤ l) }
-    requires ring { sum.old.ring ≡ known.now.ring }
-    requires degree { sum.old.degree ≡ length known.now.rows_p.now }
-    ensures { OnOk result (Subtracts known.now.ring sum.old sum.new (sum_between 0 count
-        (λ h. crossed_product (length known.now.rows_p.now)
-        (slices known.now.ring (parts_in known.now.rows_p.now ++ parts_of last.now ∷ []))
-        (slices known.now.ring (parts_in known.now.rows_u.now)) h (l - h)))) }
-{
-    let end = known.rows_p.len() + 1;
-    for h in 0..count {
-        if l - h <= known.q {
-            subtract_crossed(sum, known, last, h, l - h, end)?;
-        }
-    }
-    Ok(())
-}
-
-/// Row r of p: a_0(r), .., a_(k-1)(r), and 0 at Y^k.
+/// Row r of p: a_0(r), .., a_(k-1)(r), and 0 at Y^k. The series of p get their parts.
 ///
 /// a_i(r) = w_0(0)^-1 * (b_i(r) - sum over h < i of (a_h * w_(i-h))(r)
-///     - sum over 0 < s < r of a_i(s) * w_0(r-s)); `inverse` is w_0(0)^-1, and `row` has each b_l(r).
+///     - sum over 0 < s < r of a_i(s) * w_0(r-s)); `row` has each b_l(r).
 pub fn next_of_p(
-    known: &Known,
-    inverse: u64,
+    given: &Given,
+    p: &mut Factor,
+    u: &Factor,
     row: &[Arc<Part>],
 ) -> Result<Vec<Arc<Part>>, OutOfMemory>
-    requires p_rows { AreRowsOfParts known.now.ring known.now.k (parts_in known.now.rows_p.now) }
-    requires u_rows { AreRowsOfParts known.now.ring known.now.q (parts_in known.now.rows_u.now) }
-    requires same { length known.now.rows_u.now ≡ length known.now.rows_p.now }
-    requires begun { 1 ≤ length known.now.rows_p.now }
-    requires permitted { length known.now.rows_p.now ≤ 4095 }
-    requires residue { inverse < modulus_of known.now.ring }
-    requires row { IsRowOfParts known.now.ring (known.now.k + known.now.q)
-        (length known.now.rows_p.now) (parts_of row.now) }
-    ensures { IfOk result (λ next. IsNextOfP known.now.ring known.now.k inverse
-        (parts_in known.now.rows_p.now) (parts_in known.now.rows_u.now)
-        (parts_of row.now) (parts_of next.items)) }
+    requires p_rows { AreRowsOfParts given.now.ring given.now.k (parts_in p.old.rows.items) }
+    requires u_rows { AreRowsOfParts given.now.ring given.now.q (parts_in u.now.rows.items) }
+    requires same { length u.now.rows.items ≡ length p.old.rows.items }
+    requires begun { 1 ≤ length p.old.rows.items }
+    requires permitted { length p.old.rows.items ≤ 4095 }
+    requires few { given.now.k ≤ 32 }
+    requires residue { given.now.inverse < modulus_of given.now.ring }
+    requires none { HasNoneAtStart given.now.k (parts_in p.old.rows.items) }
+    requires p_series { AreColumns given.now.ring given.now.k (parts_in p.old.rows.items)
+        p.old.series.items }
+    requires u_series { AreColumns given.now.ring (suc given.now.q) (parts_in u.now.rows.items)
+        u.now.series.items }
+    requires row { IsRowOfParts given.now.ring (given.now.k + given.now.q)
+        (length p.old.rows.items) (parts_of row.now) }
+    ensures next { IfOk result (λ next. IsNextOfP given.now.ring given.now.k given.now.inverse
+        (parts_in p.old.rows.items) (parts_in u.now.rows.items) (parts_of row.now)
+        (parts_of next.items)) }
+    ensures series { IfOk result (λ next. AreColumns given.now.ring given.now.k
+        (parts_in p.old.rows.items ++ parts_of next.items ∷ []) p.new.series.items) }
+    ensures begin { AreBegun given.now.ring given.now.k (parts_in p.old.rows.items)
+        p.new.series.items }
+    ensures rows { p.new.rows.items ≡ p.old.rows.items }
 {
-    let degree = known.rows_p.len() as u32;
-    let mut last = Vec::new(known.alloc);
-    for i in 0..known.k {
-        let mut sum = Accumulator::new(known.alloc, known.ring, degree);
-        sum.add_scaled(&row[i], 1)?;
-        subtract_all(&mut sum, known, &last, i, i)?;
-        subtract_crossed(&mut sum, known, &last, i, 0, known.rows_p.len())?;
-        let part = scaled(known.alloc, known.ring, &sum.finish()?, inverse)?;
-        last.push(Arc::new(known.alloc, part)?)?;
+    let degree = p.rows.len() as u32;
+    let mut last = Vec::new(given.alloc);
+    for i in 0..given.k {
+        let part = next_part(
+            given,
+            &row[i],
+            &p.series[..i + 1],
+            &u.series,
+            i,
+            given.inverse,
+        )?;
+        p.series[i].push(&part)?;
+        last.push(part)?;
     }
-    last.push(Arc::new(known.alloc, Part::zero(known.alloc, degree))?)?;
+    last.push(Arc::new(given.alloc, Part::zero(given.alloc, degree))?)?;
     Ok(last)
 }
 
-/// Row r of u: w_0(r), .., w_q(r).
+/// Row r of u: w_0(r), .., w_q(r). The series of u get their parts.
 ///
-/// w_j(r) = b_(k+j)(r) - sum over i < k of (a_i * w_(k+j-i))(r); `last` is row r of p, and `row` has
-/// each b_l(r).
+/// w_j(r) = b_(k+j)(r) - sum over i < k of (a_i * w_(k+j-i))(r); `last` is row r of p, which its
+/// series have, and `row` has each b_l(r).
 pub fn next_of_u(
-    known: &Known,
+    given: &Given,
+    p: &Factor,
+    u: &mut Factor,
     last: &[Arc<Part>],
     row: &[Arc<Part>],
 ) -> Result<Vec<Arc<Part>>, OutOfMemory>
-    requires p_rows { AreRowsOfParts known.now.ring known.now.k (parts_in known.now.rows_p.now) }
-    requires u_rows { AreRowsOfParts known.now.ring known.now.q (parts_in known.now.rows_u.now) }
-    requires same { length known.now.rows_u.now ≡ length known.now.rows_p.now }
-    requires permitted { length known.now.rows_p.now ≤ 4095 }
-    requires last { IsRowOfParts known.now.ring known.now.k (length known.now.rows_p.now)
+    requires p_rows { AreRowsOfParts given.now.ring given.now.k (parts_in p.now.rows.items) }
+    requires u_rows { AreRowsOfParts given.now.ring given.now.q (parts_in u.old.rows.items) }
+    requires same { length u.old.rows.items ≡ length p.now.rows.items }
+    requires begun { 1 ≤ length p.now.rows.items }
+    requires permitted { length p.now.rows.items ≤ 4095 }
+    requires few { given.now.k + given.now.q ≤ 32 }
+    requires none { HasNoneAtStart given.now.k (parts_in p.now.rows.items) }
+    requires last { IsRowOfParts given.now.ring given.now.k (length p.now.rows.items)
         (parts_of last.now) }
-    requires row { IsRowOfParts known.now.ring (known.now.k + known.now.q)
-        (length known.now.rows_p.now) (parts_of row.now) }
-    ensures { IfOk result (λ next. IsNextOfU known.now.ring known.now.k known.now.q
-        (parts_in known.now.rows_p.now) (parts_of last.now) (parts_in known.now.rows_u.now)
+    requires p_series { AreColumns given.now.ring given.now.k
+        (parts_in p.now.rows.items ++ parts_of last.now ∷ []) p.now.series.items }
+    requires u_series { AreColumns given.now.ring (suc given.now.q) (parts_in u.old.rows.items)
+        u.old.series.items }
+    requires row { IsRowOfParts given.now.ring (given.now.k + given.now.q)
+        (length p.now.rows.items) (parts_of row.now) }
+    ensures next { IfOk result (λ next. IsNextOfU given.now.ring given.now.k given.now.q
+        (parts_in p.now.rows.items) (parts_of last.now) (parts_in u.old.rows.items)
         (parts_of row.now) (parts_of next.items)) }
+    ensures series { IfOk result (λ next. AreColumns given.now.ring (suc given.now.q)
+        (parts_in u.old.rows.items ++ parts_of next.items ∷ []) u.new.series.items) }
+    ensures begin { AreBegun given.now.ring (suc given.now.q) (parts_in u.old.rows.items)
+        u.new.series.items }
+    ensures rows { u.new.rows.items ≡ u.old.rows.items }
 {
-    let degree = known.rows_p.len() as u32;
-    let mut next = Vec::new(known.alloc);
-    for j in 0..known.q + 1 {
-        let mut sum = Accumulator::new(known.alloc, known.ring, degree);
-        sum.add_scaled(&row[known.k + j], 1)?;
-        subtract_all(&mut sum, known, last, known.k, known.k + j)?;
-        next.push(Arc::new(known.alloc, sum.finish()?)?)?;
+    let _last = last;
+    let mut next = Vec::new(given.alloc);
+    for j in 0..given.q + 1 {
+        let part = next_part(
+            given,
+            &row[given.k + j],
+            &p.series,
+            &u.series,
+            given.k + j,
+            1,
+        )?;
+        u.series[j].push(&part)?;
+        next.push(part)?;
     }
     Ok(next)
+}
+
+/// Adds the rows of the next degree to both factors. Where memory runs out a series may have one
+/// part more than there are rows.
+fn add_rows(
+    given: &Given,
+    p: &mut Factor,
+    u: &mut Factor,
+    row: &[Arc<Part>],
+) -> Result<(), OutOfMemory>
+    requires is { IsPrep (record {
+      ring = given.now.ring;
+      k = given.now.k;
+      q = given.now.q;
+      rows_p = parts_in p.old.rows.items;
+      rows_u = parts_in u.old.rows.items;
+    }) given.now.inverse }
+    requires series { HasSeries (record {
+      ring = given.now.ring;
+      k = given.now.k;
+      q = given.now.q;
+      rows_p = parts_in p.old.rows.items;
+      rows_u = parts_in u.old.rows.items;
+    }) p.old.series.items u.old.series.items }
+    requires permitted { length p.old.rows.items ≤ 4095 }
+    requires row { IsRowOfParts given.now.ring (given.now.k + given.now.q)
+        (length p.old.rows.items) (parts_of row.now) }
+    ensures ok { OnOk result (HasNext (record {
+      ring = given.now.ring;
+      k = given.now.k;
+      q = given.now.q;
+      rows_p = parts_in p.old.rows.items;
+      rows_u = parts_in u.old.rows.items;
+    }) (record {
+      ring = given.now.ring;
+      k = given.now.k;
+      q = given.now.q;
+      rows_p = parts_in p.new.rows.items;
+      rows_u = parts_in u.new.rows.items;
+    }) given.now.inverse (parts_of row.now)) }
+    ensures p_columns { OnOk result (AreColumns given.now.ring given.now.k
+        (parts_in p.new.rows.items) p.new.series.items) }
+    ensures u_columns { OnOk result (AreColumns given.now.ring (suc given.now.q)
+        (parts_in u.new.rows.items) u.new.series.items) }
+    ensures p_rows { OnErr result (p.new.rows.items ≡ p.old.rows.items) }
+    ensures u_rows { OnErr result (u.new.rows.items ≡ u.old.rows.items) }
+    ensures p_begin { AreBegun given.now.ring given.now.k (parts_in p.old.rows.items)
+        p.new.series.items }
+    ensures u_begin { AreBegun given.now.ring (suc given.now.q) (parts_in u.old.rows.items)
+        u.new.series.items }
+{
+    let row_p = next_of_p(given, p, u, row)?;
+    let row_u = next_of_u(given, p, u, &row_p, row)?;
+    p.rows.push(row_p)?;
+    if u.rows.push(row_u).is_err() {
+        let _ = p.rows.pop();
+        return Err(OutOfMemory);
+    }
+    Ok(())
+}
+
+/// Adds the next degree to both factors; where memory runs out they are as they were.
+pub fn add_degree(
+    given: &Given,
+    p: &mut Factor,
+    u: &mut Factor,
+    row: &[Arc<Part>],
+) -> Result<(), OutOfMemory>
+    requires is { IsPrep (record {
+      ring = given.now.ring;
+      k = given.now.k;
+      q = given.now.q;
+      rows_p = parts_in p.old.rows.items;
+      rows_u = parts_in u.old.rows.items;
+    }) given.now.inverse }
+    requires series { HasSeries (record {
+      ring = given.now.ring;
+      k = given.now.k;
+      q = given.now.q;
+      rows_p = parts_in p.old.rows.items;
+      rows_u = parts_in u.old.rows.items;
+    }) p.old.series.items u.old.series.items }
+    requires permitted { length p.old.rows.items ≤ 4095 }
+    requires row { IsRowOfParts given.now.ring (given.now.k + given.now.q)
+        (length p.old.rows.items) (parts_of row.now) }
+    ensures ok { OnOk result (HasNext (record {
+      ring = given.now.ring;
+      k = given.now.k;
+      q = given.now.q;
+      rows_p = parts_in p.old.rows.items;
+      rows_u = parts_in u.old.rows.items;
+    }) (record {
+      ring = given.now.ring;
+      k = given.now.k;
+      q = given.now.q;
+      rows_p = parts_in p.new.rows.items;
+      rows_u = parts_in u.new.rows.items;
+    }) given.now.inverse (parts_of row.now)) }
+    ensures p_rows { OnErr result (p.new.rows.items ≡ p.old.rows.items) }
+    ensures u_rows { OnErr result (u.new.rows.items ≡ u.old.rows.items) }
+    ensures p_columns { AreColumns given.now.ring given.now.k (parts_in p.new.rows.items)
+        p.new.series.items }
+    ensures u_columns { AreColumns given.now.ring (suc given.now.q) (parts_in u.new.rows.items)
+        u.new.series.items }
+{
+    let r = p.rows.len() as u32;
+    if add_rows(given, p, u, row).is_err() {
+        cut_back(&mut p.series, r);
+        cut_back(&mut u.series, r);
+        return Err(OutOfMemory);
+    }
+    Ok(())
 }

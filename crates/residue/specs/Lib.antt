@@ -1,1 +1,3 @@
 pub mod Residues
+pub mod Products
+pub mod ProductSums

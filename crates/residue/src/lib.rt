@@ -8,6 +8,12 @@ ghost use Rattle.std.specs.Int.{IsGcd};
 use std::error::Error;
 use std::fmt;
 
+mod exact;
+mod kernels;
+mod product_sum;
+
+pub use product_sum::ProductSum;
+
 /// A number from 2 to 2^63 - 1, modulo which is computed. It need not be a prime.
 ///
 /// A residue is a number below it; each call answers one.
@@ -60,6 +66,20 @@ impl Modulus {
         x % self.value
     }
 
+    /// The residue of any number of 128 bits: by no division where it is one, by one of 64 bits where
+    /// that suffices.
+    pub fn reduce_wide(&self, x: u128) -> u64
+        ensures { result ≡ x % number_of self.now }
+    {
+        if x < u128::from(self.value) {
+            return x as u64;
+        }
+        if x <= u128::from(u64::MAX) {
+            return x as u64 % self.value;
+        }
+        (x % u128::from(self.value)) as u64
+    }
+
     /// a + b, without a division.
     pub fn add(&self, a: u64, b: u64) -> u64
         requires a_residue { IsResidue self.now a }
@@ -83,13 +103,13 @@ impl Modulus {
         if a >= b { a - b } else { a + (self.value - b) }
     }
 
-    /// a * b, by one division of 128 bits.
+    /// a * b, by one division.
     pub fn mul(&self, a: u64, b: u64) -> u64
         requires a_residue { IsResidue self.now a }
         requires b_residue { IsResidue self.now b }
         ensures { result ≡ (a * b) % number_of self.now }
     {
-        (u128::from(a) * u128::from(b) % u128::from(self.value)) as u64
+        self.reduce_wide(u128::from(a) * u128::from(b))
     }
 
     /// -a.

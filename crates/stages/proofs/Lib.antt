@@ -2,6 +2,7 @@ pub mod RowPairs
 pub mod Prepares
 pub mod Splits
 pub mod Tables
+pub mod Tellings
 pub mod FirstRows
 pub mod Splitting
 pub mod LineTitles

@@ -30,7 +30,7 @@ pub use item::StageItem;
 pub use line::{Line, LineView};
 pub use own_rows::empty_rows;
 pub use schedule::{Core, run_schedule};
-pub use shared::SharedStageView;
+pub use shared::{SharedRowsView, SharedStageView};
 pub use stage::{Stage, StageView};
 pub use taking::StagesView;
 pub use title::StageTitle;

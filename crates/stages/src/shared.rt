@@ -1,10 +1,11 @@
 //! Stages whose rows are shared with readers.
-ghost use Rattle.std.specs.Prelude.{◌≡◌, ℕ, length, IfOk, OnOk, OnErr};
+ghost use Rattle.std.specs.Prelude.{◌≡◌, ℕ, ◌<◌, List, length, map, slice_index, IfOk, OnOk, OnErr};
 ghost use Rattle.rows.specs.Readers.{told_name, told_length};
 ghost use Rattle.rows.specs.Writers.{published_of};
+ghost use Rattle.stages.specs.Lines.{OfStage};
 
 use crate::item::StageItem;
-use crate::line::Line;
+use crate::line::{Line, LineView};
 use crate::stage::{Stage, StageView};
 use ps_model::OutOfMemory;
 use rows::{RowWriter, Told};
@@ -67,7 +68,40 @@ impl Stage<RowWriter<StageItem>> {
     }
 }
 
+/// What contracts see of a line over shared rows, beside its states: how many items of each row are
+/// published.
+pub trait SharedRowsView {
+    ghost published: { Self → List ℕ };
+}
+
+impl SharedRowsView for Line<RowWriter<StageItem>> {
+    ghost published = { λ line.
+        map ⟦<Stage<RowWriter<StageItem>> as SharedStageView>⟧.published line.stages.items };
+}
+
 impl Line<RowWriter<StageItem>> {
+    /// How many items of the row of stage `stage` are published.
+    pub fn published(&self, stage: u32) -> u32
+        requires { stage < length (⟦<Self as LineView>⟧.states self.now) }
+        ensures { result ≡ slice_index (⟦<Self as SharedRowsView>⟧.published self.now) stage }
+    {
+        self.stages[stage as usize].published()
+    }
+
+    /// That as many items of the row of stage `stage` are published as are now.
+    pub fn tell(&mut self, stage: u32) -> Told
+        requires { stage < length (⟦<Self as LineView>⟧.states self.old) }
+        ensures job { ⟦<Self as LineView>⟧.job self.new ≡ ⟦<Self as LineView>⟧.job self.old }
+        ensures states { ⟦<Self as LineView>⟧.states self.new ≡ ⟦<Self as LineView>⟧.states self.old }
+        ensures published { ⟦<Self as SharedRowsView>⟧.published self.new
+            ≡ ⟦<Self as SharedRowsView>⟧.published self.old }
+        ensures told { told_length result ≡ slice_index (⟦<Self as SharedRowsView>⟧.published self.old) stage }
+        ensures name { OfStage (⟦<Self as LineView>⟧.states self.old) stage
+            (λ s. told_name result ≡ s.name) }
+    {
+        self.stages[stage as usize].tell()
+    }
+
     /// Ends each row. It may wait for readers.
     pub fn close<W: Wait>(self, rt: &W) {
         let Line {

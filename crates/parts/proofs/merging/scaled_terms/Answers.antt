@@ -16,15 +16,15 @@ loop-t-preserved c = record {
       (λ k. IsBefore k (drop (c.loop-t.t-index + 1) c.args.a.now)) ts) (sym (c.in_ok-push_nonzero.ensures ∙
       ap (λ (t : Term). c.loop-t.terms.items ++ unless_zero (record {
         monomial = t.monomial;
-        coefficient = (c.from.result * c.from-in-loop-t.result) % c.from-m.result;
+        coefficient = c.reduce_wide-coefficient.result;
       })) c.t-item.is)) next.1;
 }
   where
-    value : (c.from.result * c.from-in-loop-t.result) % c.from-m.result ≡
+    value : c.reduce_wide-coefficient.result ≡
         (c.args.c * (get_or c.args.a.now c.loop-t.t-index c.t-item.result).coefficient) % modulus_of c.args.ring
-    value = λ i. (c.from.ensures i * (c.from-in-loop-t.ensures
-        ∙ ap (λ (t : Term). t.coefficient) c.t-item.is) i) % (c.from-m.ensures ∙ c.value.ensures.number ∙
-        c.modulus.ensures) i
+    value = c.reduce_wide-coefficient.ensures ∙
+        (λ i. (c.from.ensures i * (c.from-in-loop-t.ensures ∙ ap (λ (t : Term). t.coefficient) c.t-item.is) i) %
+        c.modulus-modulus.ensures i)
 
     next : AreTermsOf c.args.ring c.args.degree (drop (c.loop-t.t-index + 1) c.args.a.now) ×
         IsBuilt c.args.ring c.args.degree (λ f. c.args.c * terms_total f c.args.a.now)
@@ -34,11 +34,11 @@ loop-t-preserved c = record {
         unless_zero (record {
           monomial = (get_or c.args.a.now c.loop-t.t-index c.t-item.result).monomial;
           coefficient =
-              (c.from.result * c.from-in-loop-t.result) % c.from-m.result;
+              c.reduce_wide-coefficient.result;
         }))
     next = scaled_at c.args.ring c.args.degree (λ f. c.args.c * terms_total f c.args.a.now) c.loop-t.terms.items
         c.args.a.now c.loop-t.t-index c.t-item.result c.args.c
-        ((c.from.result * c.from-in-loop-t.result) % c.from-m.result)
+        c.reduce_wide-coefficient.result
         (omega arith) c.loop-t.invariant.built c.loop-t.invariant.a_terms value
 
 pub returns : goal.returns

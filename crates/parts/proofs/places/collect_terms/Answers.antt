@@ -15,15 +15,15 @@ loop-k-preserved c = elim c.if-coefficient-ne0.branch [
   | then-coefficient-ne0+then-fill_powers+else-is_err w ↦ ap (λ v. map entry_of v.items) w.terms-is ∙
       kept_push c.args.modulus.value (key_at c.args.degree c.args.weights.now) c.args.cells.now at
       c.loop-k.terms.items w.push.new.self.items w.fill_powers.new.powers (length c.args.weights.now)
-      (get_or c.args.cells.now (length c.args.cells.now - 1 - c.loop-k.k) 0 % c.from.result) (is_ok w.push.result)
+      c.reduce_wide-coefficient.result (is_ok w.push.result)
       (omega arith) (omega arith) (w.push.ensures.items ∙ ap (λ l. cond (is_ok w.push.result) (c.loop-k.terms.items ++
       record {
         monomial = record { powers = l };
-        coefficient = get_or c.args.cells.now (length c.args.cells.now - 1 - c.loop-k.k) 0 % c.from.result;
+        coefficient = c.reduce_wide-coefficient.result;
       } ∷ []) c.loop-k.terms.items) w.of_powers.ensures) (w.is_err.ensures.negation ∙ ap not w.if-is_err.false)
       (ap (option_map key_from) (ap (powers_at c.args.degree c.args.weights.now c.args.degree) (sym here) ∙
       w.fill_powers.ensures ∙ ap (λ b. cond b (Some w.fill_powers.new.powers) None) w.if-fill_powers.true))
-      (λ i. get_or c.args.cells.now (here i) 0 % same i) w.if-coefficient-ne0.true so_far
+      taken w.if-coefficient-ne0.true so_far
   | then-coefficient-ne0+else-fill_powers w ↦ ap (λ v. map entry_of v.items) w.terms-is ∙ so_far ∙
       none_kept c.args.modulus.value (key_at c.args.degree c.args.weights.now) c.args.cells.now at (omega arith)
       (ap (λ o. kept_entry (option_map key_from o) (get_or c.args.cells.now at 0 % c.args.modulus.value))
@@ -32,7 +32,7 @@ loop-k-preserved c = elim c.if-coefficient-ne0.branch [
   | else-coefficient-ne0 w ↦ ap (λ v. map entry_of v.items) w.terms-is ∙ so_far ∙
       none_kept c.args.modulus.value (key_at c.args.degree c.args.weights.now) c.args.cells.now at (omega arith)
       (kept-zero (key_at c.args.degree c.args.weights.now at) _
-      ((λ i. get_or c.args.cells.now (sym here i) 0 % sym same i) ∙ w.if-coefficient-ne0.false))
+      (sym taken ∙ w.if-coefficient-ne0.false))
 ]
   where
     at : ℕ
@@ -41,8 +41,8 @@ loop-k-preserved c = elim c.if-coefficient-ne0.branch [
     here : length c.args.cells.now - 1 - c.loop-k.k ≡ at
     here = omega arith
 
-    same : c.from.result ≡ c.args.modulus.value
-    same = c.from.ensures ∙ c.value.ensures.number
+    taken : c.reduce_wide-coefficient.result ≡ get_or c.args.cells.now at 0 % c.args.modulus.value
+    taken = c.reduce_wide-coefficient.ensures ∙ (λ i. get_or c.args.cells.now (here i) 0 % c.args.modulus.value)
 
     so_far : map entry_of c.loop-k.terms.items ≡
         finished c.args.modulus.value (key_at c.args.degree c.args.weights.now) (at + 1)

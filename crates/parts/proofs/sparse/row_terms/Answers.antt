@@ -27,11 +27,11 @@ loop-t-preserved c = record {
       (sym c.in_ok-push_nonzero.ensures) next.1;
 }
   where
-    value : (c.from.result * c.from-in-loop-t.result) % c.from-m.result ≡
+    value : c.reduce_wide-coefficient.result ≡
         (c.args.c * (get_or c.args.terms.now c.loop-t.t-index c.t-item.result).coefficient) % modulus_of c.args.ring
-    value = λ i. (c.from.ensures i * (c.from-in-loop-t.ensures
-        ∙ ap (λ (t : Term). t.coefficient) c.t-item.is) i) % (c.from-m.ensures ∙ c.value.ensures.number ∙
-        c.modulus.ensures) i
+    value = c.reduce_wide-coefficient.ensures ∙
+        (λ i. (c.from.ensures i * (c.from-in-loop-t.ensures ∙ ap (λ (t : Term). t.coefficient) c.t-item.is) i) %
+        c.modulus-modulus.ensures i)
 
     next : AreTermsOf c.args.ring c.args.right (drop (c.loop-t.t-index + 1) c.args.terms.now) ×
         IsBuilt c.args.ring (c.args.left + c.args.right)
@@ -43,7 +43,7 @@ loop-t-preserved c = record {
         (record {
           monomial = c.times.result;
           coefficient =
-              (c.from.result * c.from-in-loop-t.result) % c.from-m.result;
+              c.reduce_wide-coefficient.result;
         }))
     next = row_at c.args.ring c.args.left c.args.right c.args.terms.now c.args.x.now c.loop-t.t-index c.t-item.result
         c.requires.x_terms c.loop-t.invariant.rest (omega arith)
@@ -51,7 +51,7 @@ loop-t-preserved c = record {
         (record {
           monomial = c.times.result;
           coefficient =
-              (c.from.result * c.from-in-loop-t.result) % c.from-m.result;
+              c.reduce_wide-coefficient.result;
         }) c.args.c (c.times.ensures ∙
         ap (λ (t : Term). add_keys 8 (key_of c.args.x.now.monomial) (key_of t.monomial)) c.t-item.is)
         value c.loop-t.invariant.built

@@ -12,10 +12,10 @@ use Rattle.prepare.proofs.prep.Prep.row_u.Goals as goal
 pub returns-clause-parts : goal.returns-clause-parts
 returns-clause-parts c =
     let few = ap (λ (prep : PrepValue). length prep.rows_p) c.self.view_is in
-    let same = c.self.invariant.same in
-    let long_p = length-map c.self.inside.rows_p.items (λ (t : Vec (Arc PartValue Global) Global). parts_of t.items) in
-    let long = length-map c.self.inside.rows_u.items (λ (t : Vec (Arc PartValue Global) Global). parts_of t.items) in
-    let within : c.args.r < length c.self.inside.rows_u.items = omega (arith, few, same, long, c.requires) in
-    row_read_is c.self.inside.ring _ c.self.inside.q _ c.self.inside.rows_u.items c.args.r _ _ within c.index.ensures
-    c.deref.ensures.value c.self.invariant.u_rows (ap (λ (prep : PrepValue). prep.ring) c.self.view_is)
+    let same = c.self.invariant.0.same in
+    let long_p = length-map c.self.inside.p.rows.items (λ (t : Vec (Arc PartValue Global) Global). parts_of t.items) in
+    let long = length-map c.self.inside.u.rows.items (λ (t : Vec (Arc PartValue Global) Global). parts_of t.items) in
+    let within : c.args.r < length c.self.inside.u.rows.items = omega (arith, few, same, long, c.requires) in
+    row_read_is c.self.inside.ring _ c.self.inside.q _ c.self.inside.u.rows.items c.args.r _ _ within c.index.ensures
+    c.deref.ensures.value c.self.invariant.0.u_rows (ap (λ (prep : PrepValue). prep.ring) c.self.view_is)
     (ap (λ (prep : PrepValue). prep.q) c.self.view_is)

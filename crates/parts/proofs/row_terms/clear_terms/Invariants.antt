@@ -1,0 +1,12 @@
+use Rattle.std.proofs.Common.{◌≡◌, ℕ, ◌+◌, take, map}
+use Rattle.ps_model.specs.Sums.{total}
+use Rattle.parts.specs.SeriesRows.{rows_in, entry, pair_key, indicator, KeepsPlaces}
+use Rattle.parts.specs.Terms.{entry_of}
+use Rattle.parts.proofs.row_terms.clear_terms.Given as goal
+
+abbrev pub invariant-loop-t : goal.invariant-loop-t
+invariant-loop-t l = record {
+  kept : KeepsPlaces (rows_in l.fn.rows.items) (rows_in l.rows.items);
+  coefficients : (f p : ℕ) → entry (rows_in l.fn.rows.items) f p ≡ entry (rows_in l.rows.items) f p +
+      total (indicator (pair_key p f)) (map entry_of (take l.t-index l.terms));
+}
