@@ -1,0 +1,17 @@
+pub mod CutsWithin
+pub mod Extending
+pub mod Firsts
+pub mod Greedy
+pub mod Growth
+pub mod Keeping
+pub mod Lines
+pub mod Making
+pub mod PairLists
+pub mod Raises
+pub mod Reaches
+pub mod ReadersOf
+pub mod Rounds
+pub mod Sent
+pub mod Splits
+pub mod StageWeights
+pub mod Steps

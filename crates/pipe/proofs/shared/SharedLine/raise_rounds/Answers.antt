@@ -1,0 +1,13 @@
+use Rattle.pipe.proofs.ReadersOf.{still_stages, still_readers, shown_within, published_within}
+use Rattle.pipe.proofs.shared.SharedLine.raise_rounds.Goals as goal
+
+pub invariant_of-self-clause-stages : goal.invariant_of-self-clause-stages
+invariant_of-self-clause-stages g c = still_stages _ _ c.raise_rounds.ensures.kept _ _ c.raise_rounds.ensures.job c.args.self.now.stages
+
+pub invariant_of-self-clause-readers : goal.invariant_of-self-clause-readers
+invariant_of-self-clause-readers g c = still_readers _ _ c.raise_rounds.ensures.kept _ c.args.self.now.readers
+
+pub returns-clause-published : goal.returns-clause-published
+returns-clause-published g c = shown_within _ _
+    (λ x. published_within x.row.published x.row.handed x.row.items.items x.row.ahead x.row.there)
+    c.raise_rounds.new.self.stages.items

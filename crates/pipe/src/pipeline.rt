@@ -1,0 +1,145 @@
+//! All blocks of a line.
+ghost use Rattle.std.specs.Prelude.{◌≡◌, ℕ, ◌+◌, ◌<◌, ◌≤◌, ◌^◌, length, map, OnOk};
+ghost use Rattle.std.specs.Thread.{IsSync, IsSend};
+ghost use Rattle.pipe.specs.Looks.{state_of};
+ghost use Rattle.pipe.specs.Works.{work_of};
+ghost use Rattle.pipe.specs.Runs.{CanRun, CanRunFirst, Runs, RunsFirst, IsRaised, IsRaisedFirst};
+
+use crate::blocks::run_blocks;
+use crate::first::run_first;
+use crate::gate::Gate;
+use crate::view::Work;
+use parts::RowSource;
+use prepare::Tally;
+use ps_model::OutOfMemory;
+use rows::RowReader;
+use stages::StageItem;
+use std::sync::Wait;
+use std::sync::atomic::AtomicBool;
+use std::thread::{Threads, join_mut};
+
+/// Raises all stages, block by block, each block in a thread of its own. The first block has the
+/// first stage, and the input.
+pub(crate) fn run_all<R: Threads + Wait + Sync, G: Gate, I: RowSource>(
+    rt: &R,
+    gate: &G,
+    stop: &AtomicBool,
+    to: u32,
+    input: &mut I,
+    ends: &[u32],
+    first: &mut Work,
+    stages: &mut [Work],
+    readers: &mut [RowReader<StageItem>],
+    tally: &mut Tally,
+) -> Result<(), OutOfMemory>
+    requires first { CanRunFirst to (I.job input.old) (work_of first.old) }
+    requires can { CanRun to (map work_of stages.old) (map state_of readers.old) tally.old }
+    ensures source { I.job input.new ≡ I.job input.old }
+    ensures runs { RunsFirst (to + 1) (work_of first.old) (work_of first.new)
+        (map work_of stages.old) (map work_of stages.new)
+        (map state_of readers.old) (map state_of readers.new) tally.old tally.new }
+    ensures first_ok { OnOk result (IsRaisedFirst (to + 1) (work_of first.new)) }
+    ensures ok { OnOk result
+        (IsRaised (to + 1) (map work_of stages.old) (map work_of stages.new) (map state_of readers.new)) }
+{
+    let Some((end, later)) = ends.split_first() else {
+        return run_first(rt, gate, stop, to, input, first, stages, readers, tally);
+    };
+    if later.is_empty() {
+        return run_first(rt, gate, stop, to, input, first, stages, readers, tally);
+    }
+    let end = *end;
+    let size = (end.saturating_sub(1) as usize).min(stages.len());
+    let (mine, theirs) = stages.split_at_mut(size);
+    let (my_readers, their_readers) = readers.split_at_mut(size);
+    let mut their_count = Tally::new();
+    let done = both(
+        rt,
+        gate,
+        stop,
+        to,
+        input,
+        first,
+        mine,
+        my_readers,
+        tally,
+        later,
+        end,
+        theirs,
+        their_readers,
+        &mut their_count,
+    );
+    tally.merge(their_count);
+    done
+}
+
+/// Raises the first block, and the others beside it.
+fn both<R: Threads + Wait + Sync, G: Gate, I: RowSource>(
+    rt: &R,
+    gate: &G,
+    stop: &AtomicBool,
+    to: u32,
+    input: &mut I,
+    first: &mut Work,
+    mine: &mut [Work],
+    my_readers: &mut [RowReader<StageItem>],
+    my_tally: &mut Tally,
+    later: &[u32],
+    end: u32,
+    theirs: &mut [Work],
+    their_readers: &mut [RowReader<StageItem>],
+    their_tally: &mut Tally,
+) -> Result<(), OutOfMemory>
+    requires first { CanRunFirst to (I.job input.old) (work_of first.old) }
+    requires front { CanRun to (map work_of mine.old) (map state_of my_readers.old) my_tally.old }
+    requires back { CanRun to (map work_of theirs.old) (map state_of their_readers.old) their_tally.old }
+    ensures source { I.job input.new ≡ I.job input.old }
+    ensures front { RunsFirst (to + 1) (work_of first.old) (work_of first.new)
+        (map work_of mine.old) (map work_of mine.new)
+        (map state_of my_readers.old) (map state_of my_readers.new) my_tally.old my_tally.new }
+    ensures back { Runs (to + 1) (map work_of theirs.old) (map work_of theirs.new)
+        (map state_of their_readers.old) (map state_of their_readers.new) their_tally.old their_tally.new }
+    ensures first_ok { OnOk result (IsRaisedFirst (to + 1) (work_of first.new)) }
+    ensures front_ok { OnOk result
+        (IsRaised (to + 1) (map work_of mine.old) (map work_of mine.new) (map state_of my_readers.new)) }
+    ensures back_ok { OnOk result
+        (IsRaised (to + 1) (map work_of theirs.old) (map work_of theirs.new) (map state_of their_readers.new)) }
+{
+    let mut front = || -> Result<(), OutOfMemory>
+        requires { IsSync R.row × IsSync G.row × IsSend I.row
+            × CanRunFirst to (I.job input.now) (work_of first.now)
+            × CanRun to (map work_of mine.now) (map state_of my_readers.now) my_tally.now }
+        ensures source { I.job input.exit.now ≡ I.job input.entry.now }
+        ensures runs { RunsFirst (to + 1) (work_of first.entry.now) (work_of first.exit.now)
+            (map work_of mine.entry.now) (map work_of mine.exit.now)
+            (map state_of my_readers.entry.now) (map state_of my_readers.exit.now)
+            my_tally.entry.now my_tally.exit.now }
+        ensures first_ok { OnOk result (IsRaisedFirst (to + 1) (work_of first.exit.now)) }
+        ensures ok { OnOk result (IsRaised (to + 1) (map work_of mine.entry.now)
+            (map work_of mine.exit.now) (map state_of my_readers.exit.now)) }
+    { run_first(rt, gate, stop, to, input, first, mine, my_readers, my_tally) };
+    let mut back = || -> Result<(), OutOfMemory>
+        requires { IsSync R.row × IsSync G.row
+            × CanRun to (map work_of theirs.now) (map state_of their_readers.now) their_tally.now }
+        ensures runs { Runs (to + 1) (map work_of theirs.entry.now) (map work_of theirs.exit.now)
+            (map state_of their_readers.entry.now) (map state_of their_readers.exit.now)
+            their_tally.entry.now their_tally.exit.now }
+        ensures ok { OnOk result (IsRaised (to + 1) (map work_of theirs.entry.now)
+            (map work_of theirs.exit.now) (map state_of their_readers.exit.now)) }
+    {
+        run_blocks(
+            rt,
+            gate,
+            stop,
+            to,
+            later,
+            end,
+            theirs,
+            their_readers,
+            their_tally,
+        )
+    };
+    let (rest, done) = join_mut(rt, &mut back, &mut front);
+    done?;
+    rest
+}
