@@ -29,10 +29,11 @@ use Rattle.session.proofs.JobRings.{same_job}
 use Rattle.session.proofs.Written.{written}
 use Rattle.commands.specs.Answering.{AnswersOnly}
 use Rattle.commands.specs.Replies.{IsBlock, IsStream}
-use Rattle.commands.specs.Streams.{texts_up_to, view_stream_text, view_answer}
+use Rattle.session.specs.ViewTexts.{texts_up_to, view_stream_text}
+use Rattle.commands.specs.Streams.{view_answer}
 use Rattle.commands.specs.declared.command.ScriptCommand.TheVariants.{Factor}
-use Rattle.commands.proofs.CutTexts.{cut_lead, degree_cut}
-use Rattle.commands.proofs.StreamSteps.{lower_known}
+use Rattle.session.proofs.CutTexts.{cut_lead, degree_cut}
+use Rattle.session.proofs.StreamSteps.{lower_known}
 
 -- the names of a session's job are names
 pub names_named : (s : SessionState) → IsSession s → as_names s.job.names ≡ s.job.names

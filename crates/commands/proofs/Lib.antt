@@ -1,8 +1,5 @@
 pub mod Replied
-pub mod CutTexts
 pub mod InputTexts
-pub mod Pieces
-pub mod StreamSteps
 pub mod FactorTexts
 pub mod Counted
 pub mod Openings
@@ -18,6 +15,9 @@ pub mod Told
 pub mod LinesRead
 pub mod RunsDone
 pub mod RunsEnded
+pub mod RequestsDone
+pub mod WordsAsked
+pub mod PipelineSteps
 pub mod RunsTold
 pub mod JobRings
 pub mod BlocksOnce

@@ -5,7 +5,6 @@ use Rattle.std.proofs.lemmas.Bool.{lt-ltb}
 use Rattle.std.proofs.lemmas.Bool.Decides.{leb_tells}
 use Rattle.std.proofs.lemmas.List.{append-nil}
 use Rattle.std.proofs.lemmas.List.Elements.{All-append, All-cons, All-nil}
-use Rattle.std.specs.List.{All}
 use Rattle.std.specs.Prelude.{nat_lt, Result}
 use Rattle.ports.specs.Bytes.{WritesAll}
 use Rattle.ps_model.specs.declared.job.JobData.{JobData}
@@ -20,15 +19,14 @@ use Rattle.script.specs.declared.refusal.Refusal.{Refusal}
 use Rattle.script.specs.declared.refusal.Refusal.TheVariants as refusal
 use Rattle.script.specs.declared.request.Request.{Request}
 use Rattle.script.proofs.Paths.{path_once}
-use Rattle.commands.specs.declared.reading.Reading.{Reading}
-use Rattle.commands.specs.declared.reading.Reading.TheVariants.{Begun, Factors, Inputs}
 use Rattle.commands.specs.declared.stop.Stop.{Stop}
 use Rattle.commands.specs.declared.stop.Stop.TheVariants as stop
 use Rattle.commands.specs.declared.command.ScriptCommand.{ScriptCommand}
 use Rattle.commands.specs.declared.command.ScriptCommand.TheVariants.{Factor, Expand}
 use Rattle.commands.specs.Answering.{AnswersOnly, DoesOnly, AreOnly, MayBe, HasStopped, FactoringValue, ExpandingValue}
 use Rattle.commands.specs.Calls.{WritesBeginning}
-use Rattle.commands.specs.Lines.{state_in, spent_of, IsReading, IsOpened, Accounts, HasCause, AnswersLine}
+use Rattle.commands.specs.Readings.{Reading, Begun, Factors, Inputs, opened, state_in, spent_of, IsReading}
+use Rattle.commands.specs.Lines.{Accounts, HasCause, AnswersLine}
 use Rattle.commands.specs.Lines as lines
 use Rattle.commands.specs.Output.{Asked, degrees_of, steps_of}
 use Rattle.commands.specs.Replies.{Answers}
@@ -57,6 +55,27 @@ request_or q Skips = q
 request_or q (Becomes t) = q
 request_or q (Asks r) = r
 request_or q (Refuses f) = q
+
+-- a job of which nothing was asked for
+pub opened_state : (c : ScriptCommand) (names : List (List ℕ)) (job : JobData) → state_in (opened c names job) ≡ Has names job
+opened_state Factor names job = refl
+opened_state Expand names job = refl
+
+opened_reads : (c : ScriptCommand) (names : List (List ℕ)) (job : JobData) → length job.roots ≤ 32
+    → IsReading c (opened c names job)
+opened_reads Factor names job few = (refl, few, omega arith)
+opened_reads Expand names job few = refl
+
+opened_accounts : (c : ScriptCommand) (names : List (List ℕ)) (job : JobData) → Accounts c (opened c names job) []
+opened_accounts Factor names job = (refl, refl, All-nil _)
+opened_accounts Expand names job = refl
+
+opened_spent : (c : ScriptCommand) (names : List (List ℕ)) (job : JobData) → spent_of (opened c names job) ≡ 0
+opened_spent Factor names job = times_zero (length job.roots)
+  where
+    times_zero : (k : ℕ) → k * 0 ≡ 0
+    times_zero k = omega arith
+opened_spent Expand names job = refl
 
 module _ (c : ScriptCommand) where
   abbrev streams : Bool
@@ -178,48 +197,19 @@ module _ (c : ScriptCommand) where
   }
 
   -- the last one
-  pub opened_line : (h : Header) (names : List (List ℕ)) (job : JobData) (r : Reading) (line : List ℕ) (n : ℕ)
-      (old : Option (List ℕ)) (count tally : ℕ) → length job.roots ≤ 32 → IsOpened c names job r
-      → DoesOnly c (script.Begun h) line (Becomes (Has names job))
-      → AnswersLine c (Begun h) line n (Ok r) old old count count tally tally
-  opened_line h names job (Begun g) line n old count tally few never does = absurd never
-  opened_line h names job (Factors f) line n old count tally few (of, is) does = record {
+  pub opened_line : (h : Header) (names : List (List ℕ)) (job : JobData) (line : List ℕ) (n : ℕ) (old : Option (List ℕ))
+      (count tally : ℕ) → length job.roots ≤ 32 → DoesOnly c (script.Begun h) line (Becomes (Has names job))
+      → AnswersLine c (Begun h) line n (Ok (opened c names job)) old old count count tally tally
+  opened_line h names job line n old count tally few does = record {
     ok = record {
       text = [];
       asked = [];
-      path = (Becomes (Has names job), does, (refl, ap (λ (v : FactoringValue). Some (Has v.names v.job)) is, refl));
+      path = (Becomes (Has names job), does, (refl, ap (λ s. Some s) (opened_state c names job), refl));
       writes = writes_nothing old;
-      reads = (
-        of,
-        subst (λ (v : FactoringValue). length v.job.roots ≤ 32) (sym is) few,
-        subst (λ (v : FactoringValue). v.degrees ≤ 4096) (sym is) (omega arith),
-      );
-      accounts = λ earlier account. (
-        of,
-        ap (λ (v : FactoringValue). v.degrees) is ∙ ap degrees_of (sym (append-nil earlier ∙ account)),
-        subst (All (λ p. p.0 ≡ Has f.names f.job)) (sym (append-nil earlier ∙ account)) (All-nil _),
-      );
-      spends = ap (λ k. tally + k) (sym (ap (λ (v : FactoringValue). length v.job.roots * v.degrees) is ∙ times_zero (length job.roots)));
-    };
-    refused = λ e. absurd (let no : ⊥ = cc in no);
-    part = tt;
-    more = omega arith;
-    at_most = tt;
-    cause = tt;
-    faults = omega arith;
-  }
-    where
-      times_zero : (k : ℕ) → k * 0 ≡ 0
-      times_zero k = omega arith
-  opened_line h names job (Inputs e) line n old count tally few (of, is) does = record {
-    ok = record {
-      text = [];
-      asked = [];
-      path = (Becomes (Has names job), does, (refl, ap (λ (v : ExpandingValue). Some (Has v.names v.job)) is, refl));
-      writes = writes_nothing old;
-      reads = of;
-      accounts = λ earlier account. of;
-      spends = refl;
+      reads = opened_reads c names job few;
+      accounts = λ earlier account. subst (Accounts c (opened c names job)) (sym (append-nil earlier ∙ account))
+          (opened_accounts c names job);
+      spends = ap (λ k. tally + k) (sym (opened_spent c names job));
     };
     refused = λ e. absurd (let no : ⊥ = cc in no);
     part = tt;

@@ -1,12 +1,11 @@
 -- Lines of the header, and requests, as the code reads them.
 use Rattle.std.proofs.Common.{◌≡◌, ◌∙◌, sym, ap, refl, subst, ℕ, ◌≤◌, List, length, false, Option}
 use Rattle.std.proofs.Common.{Ok, Err, Bool, true, [], ◌∷◌, inl, inr, arith}
-use Rattle.std.specs.Prelude.{Result, IfOk, IfErr, if◌then◌else◌, codes, ◌&&◌}
+use Rattle.std.specs.Prelude.{Result, if◌then◌else◌, codes, ◌&&◌}
 use Rattle.std.proofs.lemmas.Bool.Decides.{leb_tells}
 use Rattle.parts.specs.Counting.{monomials_up_to}
 use Rattle.script.specs.Numbers.{is_number, number_of}
 use Rattle.std.specs.Str.{bytes_eq}
-use Rattle.ps_model.specs.AcceptedJob.{IsAccepted}
 use Rattle.ps_model.specs.declared.job.JobData.{JobData}
 use Rattle.parts.specs.JobRows.{IsPermitted, IsRingOf}
 use Rattle.parts.specs.Rings.{weights_of}
@@ -14,39 +13,38 @@ use Rattle.parts.specs.declared.rings.Ring.{Ring}
 use Rattle.stages.proofs.LineTitles.{few_roots}
 use Rattle.session.proofs.Opened.{same_weights}
 use Rattle.session.specs.Precisions.{weights_in}
+use Rattle.script.specs.Answers.{Asks, Refuses}
 use Rattle.script.specs.Header.{Header, HeaderSays}
 use Rattle.script.specs.Header as header
 use Rattle.script.specs.Requests.{RequestSaid, Refused, precision_of, precision_in, degree_in, asked, words_said}
 use Rattle.script.specs.Requests.{request_said}
 use Rattle.script.specs.Requests as request
+use Rattle.script.specs.Sayings.{said_of, CanBeFactored}
 use Rattle.script.specs.Script.{Has, asked_by}
 use Rattle.script.specs.Words.{is_skipped, words}
+use Rattle.script.specs.declared.header.Said.{Said}
+use Rattle.script.specs.declared.header.Said.TheVariants.{Longer, Makes}
 use Rattle.script.specs.declared.refusal.Refusal.{Refusal}
 use Rattle.script.specs.declared.refusal.Refusal.TheVariants as refusal
 use Rattle.script.specs.declared.request.Request.{Request}
 use Rattle.script.specs.declared.request.Request.TheVariants.{Show, Stream}
-use Rattle.commands.specs.declared.reading.Reading.{Reading}
-use Rattle.commands.specs.declared.reading.Reading.TheVariants.{Begun}
-use Rattle.commands.specs.declared.stop.Stop.{Stop}
-use Rattle.commands.specs.declared.stop.Stop.TheVariants as stop
 use Rattle.commands.specs.declared.command.ScriptCommand.{ScriptCommand}
 use Rattle.commands.specs.Answering.{DoesOnly}
-use Rattle.commands.specs.Lines.{AnswersLine, IsOpened}
+use Rattle.commands.specs.Lines.{AnswersLine}
+use Rattle.commands.specs.Readings.{Reading, Begun, Factors, Inputs, reading_by, state_in, IsReading, HasRing, IsAllowed}
 use Rattle.commands.specs.Words.{takes_streams}
 use Rattle.commands.proofs.HeaderOnce.{does_header, does_request}
-use Rattle.commands.proofs.LinesDone.{opened_line, no_memory}
+use Rattle.commands.proofs.LinesDone.{longer_line, opened_line}
 
--- the last line of the header, and what comes of its job
-pub made_line : (c : ScriptCommand) (h : Header) (names : List (List ℕ)) (job : JobData) (result : Result Reading Stop)
-    (line : List ℕ) (n : ℕ) (old : Option (List ℕ)) (count tally : ℕ) → length line ≤ 65536 → is_skipped line ≡ false
-    → HeaderSays h line (header.Makes names job) → IsAccepted job → IfOk result (IsOpened c names job)
-    → IfErr result (λ e. e ≡ stop.OutOfMemory)
-    → AnswersLine c (Begun h) line n result old old count count tally tally
-made_line c h names job (Ok r) line n old count tally short read says accepted opened refused =
-    opened_line c h names job r line n old count tally (few_roots job accepted) opened (does_header c h line (header.Makes names job) short read says)
-made_line c h names job (Err e) line n old count tally short read says accepted opened refused =
-    subst (λ e. AnswersLine c (Begun h) line n (Err e) old old count count tally tally) (sym refused)
-    (no_memory c (Begun h) line n old count tally)
+-- a line of the header that says something
+pub read_line : (c : ScriptCommand) (h : Header) (said : Said) (line : List ℕ) (n : ℕ) (old : Option (List ℕ))
+    (count tally : ℕ) → length line ≤ 65536 → is_skipped line ≡ false → HeaderSays h line (said_of said)
+    → CanBeFactored said → AnswersLine c (Begun h) line n (Ok (reading_by c said)) old old count count tally tally
+read_line c h (Longer h') line n old count tally short read says accepted =
+    longer_line c h h' line n old count tally (does_header c h line (header.Longer h') short read says)
+read_line c h (Makes job) line n old count tally short read says accepted =
+    opened_line c h job.names job.job line n old count tally (few_roots job.job accepted.0)
+    (does_header c h line (header.Makes job.names job.job) short read says)
 
 -- a request as the definition asks for it
 pub does_asked : (c : ScriptCommand) (names : List (List ℕ)) (job : JobData) (ring : Ring) (line : List ℕ) (said :
@@ -132,3 +130,33 @@ permitted_in streams ring job line q of is = subst (λ ws. IsPermitted ws (preci
 pub low_precision : (streams : Bool) (ws : List ℕ) (line : List ℕ) (q : Request)
     → request.Asks q ≡ request_said streams ws line → precision_of q ≤ 4095
 low_precision streams ws line q is = (permitted_precision streams ws line q is).0
+
+-- a request, behind a header
+pub asks_line : (c : ScriptCommand) (ring : Ring) (r : Reading) (line : List ℕ) (q : Request) → length line ≤ 65536
+    → is_skipped line ≡ false → HasRing ring r → IsReading c r
+    → request.Asks q ≡ request_said (takes_streams c) (weights_of ring) line
+    → DoesOnly c (state_in r) line (Asks q) × IsAllowed q r
+asks_line c ring (Begun h) line q short read of reads is = absurd of
+asks_line c ring (Factors f) line q short read of reads is = (
+  does_asked c f.names f.job ring line (request.Asks q) short read of is,
+  permitted_in (takes_streams c) ring f.job line q of is,
+)
+asks_line c ring (Inputs e) line q short read of reads is = (
+  does_asked c e.names e.job ring line (request.Asks q) short read of is,
+  (
+    permitted_in (takes_streams c) ring e.job line q of is,
+    shows_alone (weights_of ring) line q
+        (subst (λ k. request.Asks q ≡ request_said (takes_streams k) (weights_of ring) line) reads is),
+  ),
+)
+
+-- or a line that is refused
+pub refuses_line : (c : ScriptCommand) (ring : Ring) (r : Reading) (line : List ℕ) (f : Refusal) → length line ≤ 65536
+    → is_skipped line ≡ false → HasRing ring r
+    → request.Refused f ≡ request_said (takes_streams c) (weights_of ring) line
+    → DoesOnly c (state_in r) line (Refuses f)
+refuses_line c ring (Begun h) line f short read of is = absurd of
+refuses_line c ring (Factors v) line f short read of is =
+    does_asked c v.names v.job ring line (request.Refused f) short read of is
+refuses_line c ring (Inputs e) line f short read of is =
+    does_asked c e.names e.job ring line (request.Refused f) short read of is

@@ -7,7 +7,8 @@ use Rattle.parts.specs.Counting.{monomials_up_to}
 use Rattle.parts.specs.JobRows.{IsPermitted}
 use Rattle.parts.proofs.Ordered.{ArePositive}
 use Rattle.intake.specs.Jobs.{JobValue}
-use Rattle.session.specs.Calls.{IsFresh, IsEven}
+use Rattle.stages.specs.States.{StageState, prepared_of}
+use Rattle.session.specs.Calls.{IsFresh, IsFreshShared, IsEven}
 use Rattle.session.specs.Precisions.{weights_in, IsGreatestPermitted}
 use Rattle.session.specs.Sessions.{SessionState}
 use Rattle.session.proofs.EvenSteps.{fresh_even}
@@ -45,20 +46,40 @@ module _ (ws : List ℕ) (positive : ArePositive ws) where
   greatest : (d : ℕ) × IsGreatestPermitted ws d
   greatest = greatest_below 4095 (λ e is. is.0)
 
-module _ (job : JobValue) (s : SessionState) (ok : IsAccepted job.job)
-    (opened : (d : ℕ) → IsGreatestPermitted (weights_in job.job) d → IsFresh (d + 1) job s) where
+module _ (job : JobValue) (s : SessionState) (ok : IsAccepted job.job) where
   there : (d : ℕ) × IsGreatestPermitted (weights_in job.job) d
   there = greatest (weights_in job.job) (weights_positive (weights_in job.job) ok.weights.of_variables)
 
-  fresh : IsFresh (there.0 + 1) job s
-  fresh = opened there.0 there.1
-
-  pub opened_even : IsFactoring s
-  opened_even = subst (λ k. IsEven k s) (sym (ap length fresh.lead)) (fresh_even (there.0 + 1) job s fresh)
-
-  pub opened_is : factoring_of s ≡ record { names = job.names; job = job.job; degrees = 0 }
-  opened_is = λ i. record {
-    names = (fresh.same_job i).names;
-    job = (fresh.same_job i).job;
-    degrees = ap length fresh.lead i;
+  no_degrees : s.job ≡ job → s.lead ≡ [] → factoring_of s ≡ record { names = job.names; job = job.job; degrees = 0 }
+  no_degrees same_job lead = λ i. record {
+    names = (same_job i).names;
+    job = (same_job i).job;
+    degrees = ap length lead i;
   }
+
+  module _ (opened : (d : ℕ) → IsGreatestPermitted (weights_in job.job) d → IsFresh (d + 1) job s) where
+    fresh : IsFresh (there.0 + 1) job s
+    fresh = opened there.0 there.1
+
+    pub opened_even : IsFactoring s
+    opened_even = subst (λ k. IsEven k s) (sym (ap length fresh.lead)) (fresh_even (there.0 + 1) job s fresh)
+
+    pub opened_is : factoring_of s ≡ record { names = job.names; job = job.job; degrees = 0 }
+    opened_is = no_degrees fresh.same_job fresh.lead
+
+  -- over shared rows, which have names
+  module _ (opened : (d : ℕ) → IsGreatestPermitted (weights_in job.job) d → IsFreshShared (d + 1) job s) where
+    shared : IsFreshShared (there.0 + 1) job s
+    shared = opened there.0 there.1
+
+    pub shared_even : IsFactoring s
+    shared_even = subst (λ k. IsEven k s) (sym (ap length shared.lead)) (record {
+      stages = λ i d lt. (
+        ap (λ (t : StageState). length t.items) (shared.stages.each i d lt),
+        ap prepared_of (shared.stages.each i d lt),
+      );
+      lead = ap length shared.lead;
+    })
+
+    pub shared_is : factoring_of s ≡ record { names = job.names; job = job.job; degrees = 0 }
+    shared_is = no_degrees shared.same_job shared.lead

@@ -1,8 +1,8 @@
 -- What is written in a run, as far as it has come, and when it ends.
-use Rattle.std.proofs.Common.{◌≡◌, ◌∙◌, sym, ap, refl, subst, ℕ, ◌+◌, ◌<◌, ◌≤◌, ◌⊎◌, inl, inr, List, [], ◌∷◌, ◌++◌}
+use Rattle.std.proofs.Common.{◌≡◌, ◌∙◌, sym, ap, refl, subst, ℕ, ◌+◌, ◌≤◌, ◌⊎◌, inl, inr, List, [], ◌∷◌, ◌++◌}
 use Rattle.std.proofs.Common.{length, take, arith, Bool, true, false, Option, Some, None, append_assoc}
 use Rattle.std.proofs.lemmas.Bool.Decides.{leb_tells}
-use Rattle.std.proofs.lemmas.List.{append-nil, take-append-le, take_all}
+use Rattle.std.proofs.lemmas.List.{append-nil, length_push, take-append-le, take_all}
 use Rattle.std.proofs.lemmas.Option.{none-some, same_Some}
 use Rattle.std.proofs.Math.Seq.{take-append-add}
 use Rattle.ports.specs.Bytes.{WritesAll, TakesBytes, AllTaken}
@@ -16,12 +16,13 @@ use Rattle.script.proofs.Items.{Consumed, CanFollow, consumed_none}
 use Rattle.script.proofs.Paths.{path_append, path_refused, path_plain, path_once, path_cut, path_head}
 use Rattle.script.specs.declared.refusal.Refusal.{Refusal}
 use Rattle.script.specs.declared.request.Request.{Request}
-use Rattle.commands.specs.declared.reading.Reading.{Reading}
 use Rattle.commands.specs.declared.command.ScriptCommand.{ScriptCommand}
 use Rattle.commands.specs.declared.command.ScriptCommand.TheVariants.{Factor, Expand}
 use Rattle.commands.specs.Answering.{AreOnly, MayBe, DoesOnly, AnswersOnly}
 use Rattle.commands.specs.Calls.{WritesBeginning, IsLeft, IsMark, IsPart, StopsWithin, AnswersRequests}
-use Rattle.commands.specs.Lines.{state_in, spent_of, IsReading, Accounts, Steps}
+use Rattle.commands.specs.Progress.{Done, SoFar}
+use Rattle.commands.specs.Readings.{Reading, state_in, spent_of, IsReading}
+use Rattle.commands.specs.Lines.{Accounts, Steps}
 use Rattle.commands.specs.Output.{Asked, AreAnswers, IsEnd, IsMissing, steps_of}
 use Rattle.commands.specs.Replies.{Answers}
 use Rattle.commands.specs.Runs.{IsWholeAlone, FinishesRequests}
@@ -131,67 +132,62 @@ module _ (c : ScriptCommand) where
   abbrev DoesSo : State → List ℕ → Outcome State Request → Type 0
   DoesSo = Does (takes_streams c)
 
-  -- how far a run has come: what is known before the next line is taken
-  pub record SoFar (l : lines.Reading) (r : Reading) (left left' written written' : Option (List ℕ))
-      (tally tally' : ℕ) : Type 0 where
-    pub done : List Item
-    pub text : List ℕ
-    pub asked : Asked
-    pub path : AreOnly c (script.Begun Empty) 1 done text (Some (state_in r)) asked
-    pub consumed : Consumed l done
-    pub few : l.number ≤ l.place
-    pub writes : WritesAll written written' text
-    pub reads : IsReading c r
-    pub accounts : Accounts c r asked
-    pub spends : tally' ≡ tally + spent_of r
-    pub taken : TakesBytes left left' l.pulled
-    pub ended : l.ended ≡ true → AllTaken left'
-
   no_steps : steps_of c [] ≡ 0
   no_steps = elim c as (λ x. steps_of x [] ≡ 0) [ Factor ↦ refl | Expand ↦ refl ]
 
   -- before the first line
   pub so_far_none : (l : lines.Reading) (r : Reading) (left written : Option (List ℕ)) (tally : ℕ) → l.pulled ≡ []
       → l.place ≡ 0 → l.ended ≡ false → l.number ≡ 0 → state_in r ≡ script.Begun Empty → IsReading c r
-      → Accounts c r [] → SoFar l r left left written written tally tally
+      → Accounts c r [] → SoFar c l r left left written written tally tally
   so_far_none l r left written tally pulled place running none begun reads accounts = record {
-    done = [];
-    text = [];
-    asked = [];
-    path = (refl, ap (λ s. Some s) begun, refl);
+    items = [];
+    done = record {
+      text = [];
+      asked = [];
+      path = (refl, ap (λ s. Some s) begun, refl);
+      writes = writes_nothing written;
+      reads = reads;
+      accounts = accounts;
+      spends = (let is = spent_is c r [] accounts in let zero = no_steps in omega arith);
+      taken = subst (TakesBytes left left) (sym pulled) (takes_none left);
+      ended = λ is. absurd (let no = running in cc);
+    };
     consumed = consumed_none l pulled place running none;
     few = (let is = none in omega arith);
-    writes = writes_nothing written;
-    reads = reads;
-    accounts = accounts;
-    spends = (let is = spent_is c r [] accounts in let zero = no_steps in omega arith);
-    taken = subst (TakesBytes left left) (sym pulled) (takes_none left);
-    ended = λ is. absurd (let no = running in cc);
   }
 
-  -- from one state of the lines to the next
-  module _ (old new : lines.Reading) (r : Reading) (left mid left' written mid_written : Option (List ℕ))
-      (tally mid_tally : ℕ) (far : SoFar old r left mid written mid_written tally mid_tally)
-      (bytes : lines.PullsMore old new mid left')
-      (ended : new.ended ≡ true → (old.ended ≡ true) ⊎ AllTaken left')
-      (still : old.ended ≡ true → left' ≡ mid) where
-    pub now_taken : TakesBytes left left' new.pulled
-    now_taken = subst (TakesBytes left left') (sym bytes.1)
-        (taken_more left mid left' old.pulled bytes.0 far.taken bytes.2)
-
-    pub now_ended : new.ended ≡ true → AllTaken left'
-    now_ended is = elim (ended is) [
-      | inl before ↦ subst AllTaken (sym (still before)) (far.ended before)
+  -- what is done stays done when more is pulled
+  pub pulled_more : (old new : lines.Reading) (r : Reading) (left mid left' written mid_written : Option (List ℕ))
+      (tally mid_tally : ℕ) (far : SoFar c old r left mid written mid_written tally mid_tally)
+      → lines.PullsMore old new mid left' → (new.ended ≡ true → (old.ended ≡ true) ⊎ AllTaken left')
+      → (old.ended ≡ true → left' ≡ mid)
+      → Done c new r left left' written mid_written tally mid_tally far.items
+  pulled_more old new r left mid left' written mid_written tally mid_tally far bytes ended still = record {
+    text = far.done.text;
+    asked = far.done.asked;
+    path = far.done.path;
+    writes = far.done.writes;
+    reads = far.done.reads;
+    accounts = far.done.accounts;
+    spends = far.done.spends;
+    taken = subst (TakesBytes left left') (sym bytes.1)
+        (taken_more left mid left' old.pulled bytes.0 far.done.taken bytes.2);
+    ended = λ is. elim (ended is) [
+      | inl before ↦ subst AllTaken (sym (still before)) (far.done.ended before)
       | inr all ↦ all
-    ]
+    ];
+  }
 
+  -- where the items are done, and no more than a line behind them was taken
+  module _ (new : lines.Reading) (r : Reading) (left left' written mid_written : Option (List ℕ)) (tally mid_tally : ℕ)
+      (items : List Item) (far : Done c new r left left' written mid_written tally mid_tally items) where
     can_follow : (more : List ℕ) → (AllTaken left' → more ≡ []) → CanFollow new true more
-    can_follow more none is = (refl, none (now_ended is))
+    can_follow more none is = (refl, none (far.ended is))
 
     -- whatever comes of the items that are left, the whole text is one
-    whole_alone : (input : List ℕ) (rest : List Item) → items_of true input ≡ far.done ++ rest
+    whole_alone : (input : List ℕ) (rest : List Item) → items_of true input ≡ items ++ rest
         → (more : List ℕ) (after : Option State) (later : Asked) (end : List ℕ) (status : ℕ)
-        → AreOnly c (state_in r) (1 + length far.done) rest more after later → IsEnd after end status
+        → AreOnly c (state_in r) (1 + length items) rest more after later → IsEnd after end status
         → ((t : List ℕ) (u : ℕ) → IsEnd after t u → (t ≡ end) × (u ≡ status))
         → IsWholeAlone c input ((far.text ++ more) ++ end) status (far.asked ++ later)
     whole_alone input rest are more after later end status path is_end one_end = record {
@@ -213,13 +209,13 @@ module _ (c : ScriptCommand) where
       where
         whole_path : AreOnly c (script.Begun Empty) 1 (items_of true input) (far.text ++ more) after (far.asked ++ later)
         whole_path = subst (λ l. AreOnly c (script.Begun Empty) 1 l (far.text ++ more) after (far.asked ++ later)) (sym are)
-            (path_append (DoesOnly c) (AnswersOnly c) (script.Begun Empty) 1 far.done far.text (state_in r) far.asked rest
+            (path_append (DoesOnly c) (AnswersOnly c) (script.Begun Empty) 1 items far.text (state_in r) far.asked rest
             more after later far.path path)
 
     -- an item is refused, and the line that tells it is written
     pub finishes_refused : (x : Item) → ((end : Bool) (more : List ℕ) → CanFollow new end more
-        → (rest : List Item) × (items_of end (new.pulled ++ more) ≡ far.done ++ x ∷ rest))
-        → (t : List ℕ) → AreOnly c (state_in r) (1 + length far.done) (x ∷ []) t None []
+        → (rest : List Item) × (items_of end (new.pulled ++ more) ≡ items ++ x ∷ rest))
+        → (t : List ℕ) → AreOnly c (state_in r) (1 + length items) (x ∷ []) t None []
         → (new_written : Option (List ℕ)) → WritesAll mid_written new_written t
         → (tally' : ℕ) → tally' ≡ mid_tally → FinishesRequests c left written new_written tally tally' 1
     finishes_refused x next t path new_written writes tally' same = record {
@@ -228,7 +224,7 @@ module _ (c : ScriptCommand) where
       text = (far.text ++ t) ++ [];
       asked = far.asked ++ [];
       output = whole_alone (new.pulled ++ from.more) (x ∷ is.0) is.1 t None [] [] 1
-          (path_refused (DoesOnly c) (AnswersOnly c) (state_in r) (1 + length far.done) (x ∷ []) t [] path is.0)
+          (path_refused (DoesOnly c) (AnswersOnly c) (state_in r) (1 + length items) (x ∷ []) t [] path is.0)
           (refl, refl) (λ t u h. h);
       writes = subst (WritesAll written new_written) (sym (append-nil (far.text ++ t)))
           (writes_more written mid_written new_written far.text t far.writes writes);
@@ -237,24 +233,24 @@ module _ (c : ScriptCommand) where
     }
       where
         from : IsInputOf left left' new.pulled
-        from = input_of left left' new.pulled now_taken
+        from = input_of left left' new.pulled far.taken
 
-        is : (rest : List Item) × (items_of true (new.pulled ++ from.more) ≡ far.done ++ x ∷ rest)
+        is : (rest : List Item) × (items_of true (new.pulled ++ from.more) ≡ items ++ x ∷ rest)
         is = next true from.more (can_follow from.more from.all)
 
     -- the run stops within what is written for an item
     pub stops_within : (x : Item) → ((end : Bool) (more : List ℕ) → CanFollow new end more
-        → (rest : List Item) × (items_of end (new.pulled ++ more) ≡ far.done ++ x ∷ rest))
+        → (rest : List Item) × (items_of end (new.pulled ++ more) ≡ items ++ x ∷ rest))
         → (new_written : Option (List ℕ)) (tally' : ℕ)
-        → ((t : List ℕ) (after : Option State) (a : Asked) → MayBe c (state_in r) (1 + length far.done) (x ∷ []) t after a
+        → ((t : List ℕ) (after : Option State) (a : Asked) → MayBe c (state_in r) (1 + length items) (x ∷ []) t after a
         → WritesBeginning mid_written new_written t)
         → mid_tally ≤ tally'
-        → ((t : List ℕ) (after : Option State) (a : Asked) → MayBe c (state_in r) (1 + length far.done) (x ∷ []) t after a
+        → ((t : List ℕ) (after : Option State) (a : Asked) → MayBe c (state_in r) (1 + length items) (x ∷ []) t after a
         → tally' + spent_of r ≤ mid_tally + steps_of c (far.asked ++ a))
         → StopsWithin (Some (Script c)) left left' written new_written tally tally'
     stops_within x next new_written tally' writes more at_most = record {
       bytes = new.pulled;
-      taken = now_taken;
+      taken = far.taken;
       ended = end;
       mark = mark_is left' new.ended;
       writes = λ text steps part. (both end refl text steps part).0;
@@ -266,9 +262,9 @@ module _ (c : ScriptCommand) where
         end = mark left' new.ended
 
         follows : CanFollow new end []
-        follows is = (mark_ended left' new.ended now_ended is, refl)
+        follows is = (mark_ended left' new.ended far.ended is, refl)
 
-        are : (rest : List Item) × (items_of end new.pulled ≡ far.done ++ x ∷ rest)
+        are : (rest : List Item) × (items_of end new.pulled ≡ items ++ x ∷ rest)
         are = let found = next end [] follows in
             (found.0, ap (items_of end) (sym (append-nil new.pulled)) ∙ found.1)
 
@@ -276,10 +272,10 @@ module _ (c : ScriptCommand) where
             → AreAnswers c (items_of end new.pulled) lines after asked
             → WritesBeginning written new_written lines × (tally' ≤ tally + steps_of c asked)
         of_lines lines after asked answers =
-            let cut = path_cut DoesSo (Answers c) (script.Begun Empty) 1 far.done far.text (state_in r) far.asked
+            let cut = path_cut DoesSo (Answers c) (script.Begun Empty) 1 items far.text (state_in r) far.asked
             (x ∷ are.0) lines after asked far.path
             (subst (λ l. AreAnswers c l lines after asked) are.1 answers) in
-            let head = path_head DoesSo (Answers c) (state_in r) (1 + length far.done) x are.0 cut.0 after cut.1 cut.2 in (
+            let head = path_head DoesSo (Answers c) (state_in r) (1 + length items) x are.0 cut.0 after cut.1 cut.2 in (
               subst (WritesBeginning written new_written) (sym (cut.3 ∙ ap (λ l. far.text ++ l) head.4.1))
                   (begins_more written mid_written new_written far.text (head.0 ++ head.4.0) far.writes
                   (begins_longer mid_written new_written head.0 head.4.0 (writes head.0 head.1 head.2 head.3))),
@@ -305,15 +301,15 @@ module _ (c : ScriptCommand) where
             (known.0, (let most = known.1 in let are = steps_are in omega arith))
 
     -- the input ends, and no line is left
-    module _ (here : items_of true new.pulled ≡ far.done) (over : AllTaken left') where
+    module _ (here : items_of true new.pulled ≡ items) (over : AllTaken left') where
       from_end : IsInputOf left left' new.pulled
-      from_end = input_of left left' new.pulled now_taken
+      from_end = input_of left left' new.pulled far.taken
 
-      are_done : items_of true (new.pulled ++ from_end.more) ≡ far.done ++ []
+      are_done : items_of true (new.pulled ++ from_end.more) ≡ items ++ []
       are_done = ap (λ l. items_of true (new.pulled ++ l)) (from_end.all over) ∙ ap (items_of true) (append-nil new.pulled)
-          ∙ here ∙ sym (append-nil far.done)
+          ∙ here ∙ sym (append-nil items)
 
-      nothing_more : AreOnly c (state_in r) (1 + length far.done) [] [] (Some (state_in r)) []
+      nothing_more : AreOnly c (state_in r) (1 + length items) [] [] (Some (state_in r)) []
       nothing_more = (refl, refl, refl)
 
       one_end : (e : List ℕ) (n : ℕ) → IsEnd (Some (state_in r)) e n → (t : List ℕ) (u : ℕ) → IsEnd (Some (state_in r)) t u
@@ -358,7 +354,7 @@ module _ (c : ScriptCommand) where
           → StopsWithin (Some (Script c)) left left' written new_written tally mid_tally
       stops_missing f is new_written writes = record {
         bytes = new.pulled;
-        taken = now_taken;
+        taken = far.taken;
         ended = true;
         mark = marks left' over;
         writes = λ text steps part. subst (WritesBeginning written new_written) (sym (whole_text text steps part).0)
@@ -376,49 +372,102 @@ module _ (c : ScriptCommand) where
           whole_text : (text : List ℕ) (steps : ℕ) → IsPart (Some (Script c)) true new.pulled text steps
               → (text ≡ far.text ++ end_refused f) × (steps ≡ steps_of c far.asked)
           whole_text text steps (status, asked, whole, steps_are) =
-              let same = path_once DoesSo (Answers c) (script.Begun Empty) 1 far.done far.text (Some (state_in r)) far.asked
+              let same = path_once DoesSo (Answers c) (script.Begun Empty) 1 items far.text (Some (state_in r)) far.asked
               whole.lines whole.after asked far.path
               (subst (λ l. AreAnswers c l whole.lines whole.after asked) here whole.of_lines) in
               let end = subst (λ o. IsMissing o whole.end status) is (subst (λ x. IsEnd x whole.end status) same.1 whole.of_end) in
               (whole.text_is ∙ (λ i. same.0 i ++ end.0 i), steps_are ∙ ap (steps_of c) same.2)
 
     -- the source failed
-    pub answers_lines : items_of false new.pulled ≡ far.done
+    pub answers_lines : items_of false new.pulled ≡ items
         → AnswersRequests c left left' written mid_written tally mid_tally
     answers_lines here = record {
       bytes = new.pulled;
-      taken = now_taken;
+      taken = far.taken;
       text = far.text;
       state = state_in r;
       asked = far.asked;
       answers = subst (λ l. AreAnswers c l far.text (Some (state_in r)) far.asked) (sym here)
-          (path_plain DoesSo (Answers c) (script.Begun Empty) 1 far.done far.text (Some (state_in r)) far.asked far.path);
+          (path_plain DoesSo (Answers c) (script.Begun Empty) 1 items far.text (Some (state_in r)) far.asked far.path);
       writes = far.writes;
       spends = (let is = spent_is c r far.asked far.accounts in let spends = far.spends in omega arith);
     }
 
-    -- the next line is answered
-    pub so_far_line : (next : Reading) (new_written : Option (List ℕ)) (tally' : ℕ)
-        → Consumed new (far.done ++ Line new.text ∷ []) → new.number ≡ old.number + 1 → old.place < new.place
-        → Steps c r new.text new.number next mid_written new_written mid_tally tally'
-        → SoFar new next left left' written new_written tally tally'
-    so_far_line next new_written tally' consumed number onward step = record {
-      done = far.done ++ Line new.text ∷ [];
-      text = far.text ++ step.text;
-      asked = far.asked ++ step.asked;
-      path = path_append (DoesOnly c) (AnswersOnly c) (script.Begun Empty) 1 far.done far.text (state_in r) far.asked
-          (Line new.text ∷ []) step.text (Some (state_in next)) step.asked far.path
-          (subst (λ k. AreOnly c (state_in r) k (Line new.text ∷ []) step.text (Some (state_in next)) step.asked)
-          counted step.path);
-      consumed = consumed;
-      few = (let few = far.few in omega arith);
-      writes = writes_more written mid_written new_written far.text step.text far.writes step.writes;
-      reads = step.reads;
-      accounts = step.accounts far.asked far.accounts;
-      spends = (let one = far.spends in let more = step.spends in omega arith);
-      taken = now_taken;
-      ended = now_ended;
+    -- nothing more is written, whatever is left
+    pub stops_here : Consumed new items → StopsWithin (Some (Script c)) left left' written mid_written tally mid_tally
+    stops_here consumed = record {
+      bytes = new.pulled;
+      taken = far.taken;
+      ended = end;
+      mark = mark_is left' new.ended;
+      writes = λ text steps part. (both end refl text steps part).0;
+      more = (let spends = far.spends in omega arith);
+      at_most = λ text steps part. (both end refl text steps part).1;
     }
       where
-        counted : new.number ≡ 1 + length far.done
-        counted = let is = far.consumed.counted in omega arith
+        end : Bool
+        end = mark left' new.ended
+
+        follows : CanFollow new end []
+        follows is = (mark_ended left' new.ended far.ended is, refl)
+
+        are : (rest : List Item) × (items_of end new.pulled ≡ items ++ rest)
+        are = (_, ap (items_of end) (sym (append-nil new.pulled)) ∙ consumed.same end [] follows)
+
+        of_lines : (lines : List ℕ) (after : Option State) (asked : Asked)
+            → AreAnswers c (items_of end new.pulled) lines after asked
+            → WritesBeginning written mid_written lines × (mid_tally ≤ tally + steps_of c asked)
+        of_lines lines after asked answers =
+            let cut = path_cut DoesSo (Answers c) (script.Begun Empty) 1 items far.text (state_in r) far.asked
+            are.0 lines after asked far.path
+            (subst (λ l. AreAnswers c l lines after asked) are.1 answers) in (
+              subst (WritesBeginning written mid_written) (sym cut.3)
+                  (begins_more written mid_written mid_written far.text cut.0 far.writes
+                  (nothing_written mid_written cut.0)),
+              (let spends = far.spends in let is = spent_is c r far.asked far.accounts in
+                  let grow = steps_grow c far.asked cut.1 in
+                  let same : steps_of c (far.asked ++ cut.1) ≡ steps_of c asked = ap (steps_of c) (sym cut.4) in
+                  omega arith),
+            )
+
+        both : (b : Bool) → end ≡ b → (text : List ℕ) (steps : ℕ) → IsPart (Some (Script c)) b new.pulled text steps
+            → WritesBeginning written mid_written text × (mid_tally ≤ tally + steps)
+        both true is text steps (status, asked, whole, steps_are) =
+            let answers = of_lines whole.lines whole.after asked
+            (subst (λ b. AreAnswers c (items_of b new.pulled) whole.lines whole.after asked) (sym is) whole.of_lines) in (
+              subst (WritesBeginning written mid_written) (sym whole.text_is)
+                  (begins_longer written mid_written whole.lines whole.end answers.0),
+              (let most = answers.1 in let are = steps_are in omega arith),
+            )
+        both false is text steps (after, asked, answers, steps_are) =
+            let known = of_lines text after asked
+            (subst (λ b. AreAnswers c (items_of b new.pulled) text after asked) (sym is) answers) in
+            (known.0, (let most = known.1 in let are = steps_are in omega arith))
+
+    -- the line behind the items is answered
+    pub so_far_line : (next : Reading) (new_written : Option (List ℕ)) (tally' : ℕ)
+        → Consumed new (items ++ Line new.text ∷ []) → new.number ≤ new.place
+        → Steps c r new.text new.number next mid_written new_written mid_tally tally'
+        → SoFar c new next left left' written new_written tally tally'
+    so_far_line next new_written tally' consumed few step = record {
+      items = items ++ Line new.text ∷ [];
+      done = record {
+        text = far.text ++ step.text;
+        asked = far.asked ++ step.asked;
+        path = path_append (DoesOnly c) (AnswersOnly c) (script.Begun Empty) 1 items far.text (state_in r) far.asked
+            (Line new.text ∷ []) step.text (Some (state_in next)) step.asked far.path
+            (subst (λ k. AreOnly c (state_in r) k (Line new.text ∷ []) step.text (Some (state_in next)) step.asked)
+            counted step.path);
+        writes = writes_more written mid_written new_written far.text step.text far.writes step.writes;
+        reads = step.reads;
+        accounts = step.accounts far.asked far.accounts;
+        spends = (let one = far.spends in let more = step.spends in omega arith);
+        taken = far.taken;
+        ended = far.ended;
+      };
+      consumed = consumed;
+      few = few;
+    }
+      where
+        counted : new.number ≡ 1 + length items
+        counted = let is = consumed.counted in let one = length_push items (Line new.text) in omega arith

@@ -17,9 +17,20 @@ use Rattle.commands.specs.Words as work
 use Rattle.commands.proofs.RunsDone.{mark, mark_is, takes_none}
 
 -- what is done for words, by the command that was found
-pub found_work : (words : List (List ℕ)) (found command : Option Command) → found ≡ command_in words → found ≡ command
+found_work : (words : List (List ℕ)) (found command : Option Command) → found ≡ command_in words → found ≡ command
     → work_in words ≡ option_and_then work_of command
 found_work words found command parsed is = ap (option_and_then work_of) (sym parsed ∙ is)
+
+-- what is known of the run for the command is known of the run for the words
+pub ran_found : (words : List (List ℕ)) (found command : Option Command) → found ≡ command_in words → found ≡ command
+    → {n : ℕ} {left left' : Option (List ℕ)} {read read' : ℕ} {written written' : Option (List ℕ)}
+    {wrote wrote' tally tally' : ℕ}
+    → Ran (option_and_then work_of command) n left left' read read' written written' wrote wrote' tally tally'
+    → Ran (work_in words) n left left' read read' written written' wrote wrote' tally tally'
+ran_found words found command parsed is {n = n} {left = left} {left' = left'} {read = read} {read' = read'}
+    {written = written} {written' = written'} {wrote = wrote} {wrote' = wrote'} {tally = tally} {tally' = tally'} ran =
+    subst (λ o. Ran o n left left' read read' written written' wrote wrote' tally tally')
+    (sym (found_work words found command parsed is)) ran
 
 false_true : false ≡ true → ⊥
 false_true is = cc
@@ -74,56 +85,52 @@ ran_usage left read written written' wrote wrote' tally r done begins rose fault
     never : (n : ℕ) → r ≡ n → n ≢ 4 → n ≢ 2 → ⊥
     never n is not_four not_two = not_two (sym is ∙ (done (λ four. not_four (sym is ∙ four))).0)
 
--- what was written is the output
-pub ran_outputs : (o : Option Work) (n : ℕ) (left left' : Option (List ℕ)) (read read' : ℕ)
-    (written written' : Option (List ℕ)) (wrote wrote' tally tally' : ℕ)
-    → Ran o n left left' read read' written written' wrote wrote' tally tally' → (n ≤ 2) ⊎ (n ≡ 6)
-    → Outputs o left written written' tally tally' n
-ran_outputs o n left left' read read' written written' wrote wrote' tally tally' ran low =
-    let done = ran.whole low in
-    record {
-      input = done.input;
-      is_left = done.is_left;
-      text = done.text;
-      steps = done.steps;
-      output = done.output;
-      writes = done.writes;
-      spends = done.spends;
-    }
+module _ {o : Option Work} {n : ℕ} {left left' : Option (List ℕ)} {read read' : ℕ}
+    {written written' : Option (List ℕ)} {wrote wrote' tally tally' : ℕ}
+    (ran : Ran o n left left' read read' written written' wrote wrote' tally tally') where
+  -- what was written is the output
+  pub ran_outputs : (n ≤ 2) ⊎ (n ≡ 6) → Outputs o left written written' tally tally' n
+  ran_outputs low =
+      let done = ran.whole low in
+      record {
+        input = done.input;
+        is_left = done.is_left;
+        text = done.text;
+        steps = done.steps;
+        output = done.output;
+        writes = done.writes;
+        spends = done.spends;
+      }
 
--- without a fault the status is the output's, or that of memory
-pub ran_complete : (o : Option Work) (n : ℕ) (left left' : Option (List ℕ)) (read read' : ℕ)
-    (written written' : Option (List ℕ)) (wrote wrote' tally tally' : ℕ)
-    → Ran o n left left' read read' written written' wrote wrote' tally tally'
-    → (input text : List ℕ) (status steps : ℕ) → IsKnown o left input → IsOutput o input text status steps
-    → (Rose read read' → ⊥) → (Rose wrote wrote' → ⊥) → (n ≡ status) ⊎ (n ≡ 5)
-ran_complete o n left left' read read' written written' wrote wrote' tally tally' ran input text status steps known
-    output no_read no_write = elim (leb_tells 3 n) [
-      | inr low ↦ inl (by o left known output (ran.whole (inl (let below = low.1 in omega arith))))
-      | inl high ↦ elim (eqb_tells n 3) [
-        | inl three ↦ absurd (no_read (ran.read_fault three.1))
-        | inr not_three ↦ elim (eqb_tells n 4) [
-          | inl four ↦ absurd (no_write (ran.write_fault four.1))
-          | inr not_four ↦ elim (eqb_tells n 6) [
-            | inl six ↦ inl (by o left known output (ran.whole (inr six.1)))
-            | inr not_six ↦
-                inr (let above = high.1 in let low = ran.low in let a = not_three.1 in let b = not_four.1 in
-                let d = not_six.1 in omega arith)
-          ]
+  -- without a fault the status is the output's, or that of memory
+  pub ran_complete : (input text : List ℕ) (status steps : ℕ) → IsKnown o left input → IsOutput o input text status steps
+      → (Rose read read' → ⊥) → (Rose wrote wrote' → ⊥) → (n ≡ status) ⊎ (n ≡ 5)
+  ran_complete input text status steps known output no_read no_write = elim (leb_tells 3 n) [
+    | inr low ↦ inl (by o left known output (ran.whole (inl (let below = low.1 in omega arith))))
+    | inl high ↦ elim (eqb_tells n 3) [
+      | inl three ↦ absurd (no_read (ran.read_fault three.1))
+      | inr not_three ↦ elim (eqb_tells n 4) [
+        | inl four ↦ absurd (no_write (ran.write_fault four.1))
+        | inr not_four ↦ elim (eqb_tells n 6) [
+          | inl six ↦ inl (by o left known output (ran.whole (inr six.1)))
+          | inr not_six ↦
+              inr (let above = high.1 in let low = ran.low in let a = not_three.1 in let b = not_four.1 in
+              let d = not_six.1 in omega arith)
         ]
       ]
     ]
-  where
-    by : (w : Option Work) (left : Option (List ℕ)) → IsKnown w left input → IsOutput w input text status steps
-        → Finishes w left written written' tally tally' n → n ≡ status
-    by None left known output done = sym (done.only text status steps output).1
-    by (Some (work.Demo k)) left known output done = sym (done.only text status steps output).1
-    by (Some (work.Script c)) None known output done = absurd known
-    by (Some (work.Script c)) (Some bytes) known output done = sym (done.only text status steps
-        (subst (λ i. IsOutput (Some (work.Script c)) i text status steps) (sym known ∙ done.is_left) output)).1
-    by (Some work.Check) None known output done = absurd known
-    by (Some work.Check) (Some bytes) known output done = sym (done.only text status steps
-        (subst (λ i. IsOutput (Some work.Check) i text status steps) (sym known ∙ done.is_left) output)).1
+  ]
+    where
+      by : (w : Option Work) (left : Option (List ℕ)) → IsKnown w left input → IsOutput w input text status steps
+          → Finishes w left written written' tally tally' n → n ≡ status
+      by None left known output done = sym (done.only text status steps output).1
+      by (Some (work.Demo k)) left known output done = sym (done.only text status steps output).1
+      by (Some (work.Script c)) None known output done = absurd known
+      by (Some (work.Script c)) (Some bytes) known output done = sym (done.only text status steps
+          (subst (λ i. IsOutput (Some (work.Script c)) i text status steps) (sym known ∙ done.is_left) output)).1
+      by (Some work.Check) None known output done = absurd known
+      by (Some work.Check) (Some bytes) known output done = sym (done.only text status steps
+          (subst (λ i. IsOutput (Some work.Check) i text status steps) (sym known ∙ done.is_left) output)).1
 
 -- the job of a number is summed up
 pub ran_demo : (n : ℕ) (left : Option (List ℕ)) (read : ℕ) (written written' : Option (List ℕ))

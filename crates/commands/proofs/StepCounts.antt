@@ -4,11 +4,10 @@ use Rattle.std.proofs.lemmas.List.Elements.{All-head}
 use Rattle.std.proofs.lemmas.Nat.{mul-le}
 use Rattle.script.specs.Requests.{precision_of}
 use Rattle.script.specs.Script.{Has}
-use Rattle.commands.specs.declared.reading.Reading.{Reading}
-use Rattle.commands.specs.declared.reading.Reading.TheVariants.{Begun, Factors, Inputs}
 use Rattle.commands.specs.declared.command.ScriptCommand.{ScriptCommand}
 use Rattle.commands.specs.declared.command.ScriptCommand.TheVariants.{Factor, Expand}
-use Rattle.commands.specs.Lines.{Accounts, spent_of}
+use Rattle.commands.specs.Readings.{Reading, Begun, Factors, Inputs, spent_of}
+use Rattle.commands.specs.Lines.{Accounts}
 use Rattle.commands.specs.Output.{Asked, degrees_of, roots_in, steps_of}
 
 max_assoc : (a b c : ℕ) → max (max a b) c ≡ max a (max b c)

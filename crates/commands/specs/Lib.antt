@@ -8,9 +8,12 @@ pub mod Statuses
 pub mod Answering
 pub mod Streams
 pub mod Factorings
+pub mod SharedStates
 pub mod Expandings
+pub mod Readings
 pub mod Lines
 pub mod Runs
+pub mod Progress
 pub mod Telling
 pub mod Judged
 pub mod CheckLines

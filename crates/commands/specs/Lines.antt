@@ -1,27 +1,20 @@
--- What the steps of a run do to a script that is read line by line.
---     state_in r      the state in which the script is
---     spent_of r      the steps that the answers took so far
---     IsReading c r      requests are answered as the command does, and the steps so far are few
+-- What the lines of a script do, which is read line by line.
 --     Accounts c r asked      these requests were asked for so far
---     IsOpened c names job r      it answers requests of the job, and none was asked for
 --     HasCause e before now      a fault of the sink is answered only where one was counted
 --     Refuses e old new before now text      the line of a refusal was written, or a beginning of it
 --     Steps c r line n next ..      the line was done as it must be, and next is behind it
 --     AnswersLine c r line n result ..      Ok: that; a refusal: the line that tells it was written; else a beginning
 --     EndsReading r result ..      Ok: nothing is missing where the input ends; else what is was told, or a beginning
-use Rattle.std.specs.Prelude.{◌≡◌, ℕ, ◌+◌, ◌*◌, ◌≤◌, List, [], ◌∷◌, ◌++◌, length, Option, Some, None}
+use Rattle.std.specs.Prelude.{◌≡◌, ℕ, ◌+◌, ◌≤◌, List, [], ◌∷◌, ◌++◌, Option, Some, None}
 use Rattle.std.specs.Prelude.{Result, Err, OnOk, OnErr, IfOk, IfErr}
 use Rattle.std.specs.List.{All}
 use Rattle.ports.specs.Bytes.{WritesAll}
 use Rattle.ports.specs.Faults.{Rose}
-use Rattle.ps_model.specs.declared.job.JobData.{JobData}
 use Rattle.script.specs.Answers.{Line}
 use Rattle.script.specs.Refusals.{end_refused}
 use Rattle.script.specs.Script.{State, Has, missing}
-use Rattle.script.specs.Script as script
 use Rattle.script.specs.declared.refusal.Refusal.{Refusal}
-use Rattle.commands.specs.declared.reading.Reading.{Reading}
-use Rattle.commands.specs.declared.reading.Reading.TheVariants.{Begun, Factors, Inputs}
+use Rattle.commands.specs.Readings.{Reading, Begun, Factors, Inputs, state_in, spent_of, IsReading}
 use Rattle.commands.specs.declared.stop.Stop.{Stop}
 use Rattle.commands.specs.declared.stop.Stop.TheVariants.{Refused, ReadFault, WriteFault, OutOfMemory}
 use Rattle.commands.specs.declared.command.ScriptCommand.{ScriptCommand}
@@ -30,32 +23,11 @@ use Rattle.commands.specs.Answering.{AreOnly, MayBe}
 use Rattle.commands.specs.Calls.{WritesBeginning}
 use Rattle.commands.specs.Output.{Asked, degrees_of, steps_of}
 
-abbrev pub state_in : Reading → State
-state_in (Begun h) = script.Begun h
-state_in (Factors f) = Has f.names f.job
-state_in (Inputs e) = Has e.names e.job
-
-abbrev pub spent_of : Reading → ℕ
-spent_of (Begun h) = 0
-spent_of (Factors f) = length f.job.roots * f.degrees
-spent_of (Inputs e) = 0
-
-abbrev pub IsReading : ScriptCommand → Reading → Type 0
-IsReading c (Begun h) = Unit {0}
-IsReading c (Factors f) = (c ≡ Factor) × (length f.job.roots ≤ 32) × (f.degrees ≤ 4096)
-IsReading c (Inputs e) = c ≡ Expand
-
 abbrev pub Accounts : ScriptCommand → Reading → Asked → Type 0
 Accounts c (Begun h) asked = asked ≡ []
 Accounts c (Factors f) asked =
     (c ≡ Factor) × (f.degrees ≡ degrees_of asked) × All (λ p. p.0 ≡ Has f.names f.job) asked
 Accounts c (Inputs e) asked = c ≡ Expand
-
--- what answers the requests of a job, of which none was asked for
-abbrev pub IsOpened : ScriptCommand → List (List ℕ) → JobData → Reading → Type 0
-IsOpened c names job (Begun h) = ⊥
-IsOpened c names job (Factors f) = (c ≡ Factor) × (f ≡ record { names = names; job = job; degrees = 0 })
-IsOpened c names job (Inputs e) = (c ≡ Expand) × (e ≡ record { names = names; job = job })
 
 abbrev pub HasCause : Stop → ℕ → ℕ → Type 0
 HasCause Refused before now = Unit {0}

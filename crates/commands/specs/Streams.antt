@@ -1,21 +1,11 @@
--- The texts of what a view has, by request.
---     texts_up_to text r      text 0 ++ .. ++ text r
---     view_stream_text names value D      the stream up to degree D
+-- The text of what a view has, by request.
 --     view_answer names value r      the text that the request asks for
-use Rattle.std.specs.Prelude.{ℕ, zero, suc, List, ◌++◌, codes, decimal}
-use Rattle.ps_model.specs.BlockText.{newline}
-use Rattle.printer.specs.Texts.{view_text, view_degree_text}
+use Rattle.std.specs.Prelude.{ℕ, List}
+use Rattle.printer.specs.Texts.{view_text}
 use Rattle.printer.specs.View.{BlockValue}
+use Rattle.session.specs.ViewTexts.{view_stream_text}
 use Rattle.script.specs.declared.request.Request.{Request}
 use Rattle.script.specs.declared.request.Request.TheVariants.{Show, Stream}
-
-abbrev pub texts_up_to : (ℕ → List ℕ) → ℕ → List ℕ
-texts_up_to text zero = text 0
-texts_up_to text (suc r) = texts_up_to text r ++ text (suc r)
-
-abbrev pub view_stream_text : List (List ℕ) → BlockValue → ℕ → List ℕ
-view_stream_text names value D =
-    codes "stream " ++ decimal D ++ newline ++ texts_up_to (view_degree_text names value) D ++ codes "end" ++ newline
 
 abbrev pub view_answer : List (List ℕ) → BlockValue → Request → List ℕ
 view_answer names value (Show D) = view_text names value D

@@ -1,19 +1,53 @@
-//! What answers the requests of `expand`.
-ghost use Rattle.std.specs.Prelude.{◌≡◌, ◌+◌, ◌<◌, ◌≤◌, length, OnOk};
+//! Scripts of `expand`.
+ghost use Rattle.std.specs.Prelude.{◌≡◌, ℕ, ◌+◌, ◌<◌, ◌≤◌, length, OnOk, Some};
 ghost use Rattle.parts.specs.JobRows.{IsPermitted};
 ghost use Rattle.parts.specs.RowsOfParts.{parts_in};
 ghost use Rattle.session.specs.Precisions.{weights_in};
+ghost use Rattle.commands.specs.declared.command.ScriptCommand.TheVariants.{Expand};
 ghost use Rattle.commands.specs.Expandings.{AreValueRows};
+ghost use Rattle.commands.specs.Runs.{Ran, status_in};
+ghost use Rattle.commands.specs.Words.{Script};
 
+use crate::command::ScriptCommand;
+use crate::factoring::precision_of;
+use crate::reading::{next_request, read_job};
 use crate::stop::Stop;
 use intake::{InputRows, Job};
 use parts::{Part, Ring};
-use ports::Sink;
+use ports::{Lines, Sink, Source};
 use printer::write_input;
 use ps_model::OutOfMemory;
 use std::alloc::Global;
 use std::marker::Model;
 use std::sync::Arc;
+
+/// Answers a script of `expand`, line by line. Each request is answered before a line is pulled that
+/// isn't there yet.
+pub(crate) fn expand_script<S: Source, K: Sink>(
+    alloc: Global,
+    source: &mut S,
+    sink: &mut K,
+) -> Result<(), Stop>
+    ensures { (tally : ℕ) → Ran (Some (Script Expand)) (status_in result) (S.left source.old)
+        (S.left source.new) (S.faults source.old) (S.faults source.new) (K.written sink.old)
+        (K.written sink.new) (K.faults sink.old) (K.faults sink.new) tally tally }
+{
+    let command = ScriptCommand::Expand;
+    let mut lines = Lines::new(alloc)?;
+    let job = read_job(alloc, command, &mut lines, source, sink)?;
+    let mut expanding = Expanding::open(alloc, job);
+    while let Some(request) = next_request(
+        alloc,
+        command,
+        expanding.ring(),
+        &mut lines,
+        source,
+        sink,
+    )? {
+        expanding = expanding.answer(precision_of(request), sink)?;
+    }
+    Ok(())
+}
 
 /// A job whose input answers requests.
 #[derive(Drop)]

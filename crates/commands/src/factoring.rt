@@ -1,15 +1,20 @@
-//! What answers the requests of `factor`.
-ghost use Rattle.std.specs.Prelude.{◌≡◌, ◌+◌, ◌^◌, ◌≤◌, IfSome, OnOk};
+//! Scripts of `factor`, on one thread or in rounds.
+ghost use Rattle.std.specs.Prelude.{◌≡◌, ◌+◌, ◌^◌, ◌≤◌, IfSome, OnOk, Some};
 ghost use Rattle.parts.specs.JobRows.{IsPermitted};
 ghost use Rattle.script.specs.Requests.{precision_of as precision_in};
 ghost use Rattle.session.specs.Calls.{IsRaised, IsWithin, KeepsSession, prepared_degrees};
 ghost use Rattle.session.specs.Precisions.{weights_in};
+ghost use Rattle.commands.specs.declared.command.ScriptCommand.TheVariants.{Factor as FactorScript};
+ghost use Rattle.commands.specs.Runs.{Ran, status_in};
+ghost use Rattle.commands.specs.Words.{Script};
 
+use crate::command::ScriptCommand;
+use crate::reading::{next_request, read_job};
 use crate::stop::Stop;
 use crate::streams::write_answer;
 use intake::Job;
 use parts::Ring;
-use ports::Sink;
+use ports::{Lines, Sink, Source};
 use prepare::Tally;
 use ps_model::OutOfMemory;
 use rows::OwnRow;
@@ -19,6 +24,39 @@ use stages::StageItem;
 use std::alloc::Global;
 use std::marker::Model;
 use std::thread::Threads;
+
+/// Answers a script of `factor`, line by line. Factors are raised in rounds of up to so many threads, or
+/// on this thread alone. Each request is answered before a line is pulled that isn't there yet.
+pub(crate) fn factor_in_rounds<S: Source, K: Sink>(
+    rt: &(impl Threads + Sync),
+    alloc: Global,
+    rounds: Option<u32>,
+    source: &mut S,
+    sink: &mut K,
+    tally: &mut Tally,
+) -> Result<(), Stop>
+    requires rounds { IfSome rounds (λ n. (1 ≤ n) × (n ≤ 64)) }
+    requires room { tally.old ≤ 2 ^ 60 }
+    ensures { Ran (Some (Script FactorScript)) (status_in result) (S.left source.old) (S.left source.new)
+        (S.faults source.old) (S.faults source.new) (K.written sink.old) (K.written sink.new)
+        (K.faults sink.old) (K.faults sink.new) tally.old tally.new }
+{
+    let command = ScriptCommand::Factor;
+    let mut lines = Lines::new(alloc)?;
+    let job = read_job(alloc, command, &mut lines, source, sink)?;
+    let mut factoring = Factoring::open(alloc, job)?;
+    while let Some(request) = next_request(
+        alloc,
+        command,
+        factoring.ring(),
+        &mut lines,
+        source,
+        sink,
+    )? {
+        factoring = factoring.answer(rt, rounds, request, sink, tally)?;
+    }
+    Ok(())
+}
 
 /// A job whose factors answer requests.
 #[derive(Drop)]

@@ -6,9 +6,10 @@ mod command;
 // why a run ends
 mod stop;
 
-// what answers the requests of a job
+// scripts of the commands that answer requests, and what answers them
 mod expanding;
 mod factoring;
+mod pipeline;
 mod streams;
 
 // a script of `check`, line by line, and its block
@@ -17,11 +18,11 @@ mod checking;
 mod judging;
 mod verdict;
 
-// a script of the others, line by line
+// a script of the others, line by line, and the words of all
 pub mod laws;
 mod program;
 mod reading;
 mod refusing;
 
 pub use command::ScriptCommand;
-pub use program::run;
+pub use program::{asks_pipe, run, run_pipe};

@@ -1,6 +1,7 @@
 //! Why a run ends before its input does.
 use ports::WriteFault;
 use ps_model::OutOfMemory;
+use session::StreamFault;
 use std::alloc::{AllocError, AllocFailed};
 
 /// Why a run ends before its input does, or with the end of its input refused.
@@ -41,6 +42,20 @@ impl From<WriteFault> for Stop {
 
     fn from(_: WriteFault) -> Stop {
         Stop::WriteFault
+    }
+}
+
+impl From<StreamFault> for Stop {
+    ghost use Rattle.std.specs.Prelude.{◌≡◌};
+    ghost use Rattle.commands.specs.Statuses.{stop_of};
+
+    ghost from_gives = { λ fault e. e ≡ stop_of fault };
+
+    fn from(fault: StreamFault) -> Stop {
+        match fault {
+            StreamFault::Write => Stop::WriteFault,
+            StreamFault::OutOfMemory => Stop::OutOfMemory,
+        }
     }
 }
 

@@ -1,9 +1,13 @@
 //! Scripts with their texts, statuses, steps and pulls.
-use crate::run;
+use crate::run_words;
+use meeting::Meeting;
+use pipe::{Gate, OpenGate};
 use ports::{CalmSource, MemorySink, MemorySource, Pulled, Source};
 use prepare::Tally;
 use std::alloc::Global;
+use std::marker::Sync;
 use std::process::Abort;
+use std::sync::Wait;
 use std::test::Fail;
 use std::thread::Threads;
 
@@ -32,17 +36,39 @@ fn words_of(alloc: Global, words: &[&str]) -> Result<Vec<String>, Fail> {
 
 /// Runs the program, and compares the text, the status and the steps.
 fn assert_run<S: Source>(
-    rt: &(impl Abort + Threads + Sync),
+    rt: &(impl Abort + Threads + Wait + Sync),
+    alloc: Global,
+    words: &[&str],
+    source: &mut S,
+    sink: MemorySink,
+    want: (&[u8], u8, u64),
+    shows: &str,
+) -> Result<(), Fail> {
+    assert_run_past(rt, alloc, words, source, sink, &OpenGate, want, shows)
+}
+
+/// The same, where workers pass this gate before each step.
+fn assert_run_past<S: Source, G: Gate>(
+    rt: &(impl Abort + Threads + Wait + Sync),
     alloc: Global,
     words: &[&str],
     source: &mut S,
     mut sink: MemorySink,
+    gate: &G,
     want: (&[u8], u8, u64),
     shows: &str,
 ) -> Result<(), Fail> {
     let words = words_of(alloc, words)?;
     let mut tally = Tally::new();
-    let status = run(rt, alloc, words.as_slice(), source, &mut sink, &mut tally);
+    let status = run_words(
+        rt,
+        alloc,
+        words.as_slice(),
+        source,
+        &mut sink,
+        gate,
+        &mut tally,
+    );
     let steps = tally.finish();
     let (text, want_status, want_steps) = want;
     assert_eq!(rt; sink.bytes(), text, "{shows}");
@@ -52,7 +78,7 @@ fn assert_run<S: Source>(
 
 /// Runs a command on a script that is read whole, with room for the text.
 fn assert_script(
-    rt: &(impl Abort + Threads + Sync),
+    rt: &(impl Abort + Threads + Wait + Sync),
     alloc: Global,
     command: &str,
     script: &[u8],
@@ -120,24 +146,104 @@ fn an_input_past_the_limit_is_refused(rt: HostRuntime) -> Result<(), Fail> {
     assert_script(&rt, alloc, "factor", &script, (text, 1, 0))
 }
 
+// By hand, as in the tests of `session`.
 #[test]
-fn factors_are_raised_in_rounds(rt: HostRuntime) -> Result<(), Fail> {
+fn threads_change_nothing(rt: HostRuntime) -> Result<(), Fail> {
     let alloc = rt.alloc();
-    let script = b"mod 101\nvars x y\npoly Y*(Y-1)*(Y-2) + x + y*Y\nroots 0:1 1:1 2:1\nshow 1\n";
+    let script =
+        b"mod 101\nvars x y\npoly Y*(Y-1)*(Y-2) + x + y*Y\nroots 0:1 1:1 2:1\nshow 1\nstream 1\n";
     let text =
-        b"precision 1\nfactor 1 root 0 times 1\nY^1: 1\nY^0: 51*x\nfactor 2 root 1 times 1\nY^1: 1\nY^0: 100 + 100*x + 100*y\nfactor 3 root 2 times 1\nY^1: 1\nY^0: 99 + 51*x + 1*y\n";
-    let cases: [&[&str]; 4] = [
+        b"precision 1\nfactor 1 root 0 times 1\nY^1: 1\nY^0: 51*x\nfactor 2 root 1 times 1\nY^1: 1\nY^0: 100 + 100*x + 100*y\nfactor 3 root 2 times 1\nY^1: 1\nY^0: 99 + 51*x + 1*y\nstream 1\ndegree 0\n1 Y^1: 1\n2 Y^1: 1\n2 Y^0: 100\n3 Y^1: 1\n3 Y^0: 99\ndegree 1\n1 Y^0: 51*x\n2 Y^0: 100*x + 100*y\n3 Y^0: 51*x + 1*y\nend\n";
+    let cases: [&[&str]; 8] = [
         &["factor"],
         &["factor", "--rounds", "1"],
         &["factor", "--rounds", "3"],
         &["factor", "--rounds=64"],
+        &["factor", "--workers", "1"],
+        &["factor", "--workers", "2"],
+        &["factor", "--workers", "9"],
+        &["factor", "--workers=64"],
     ];
     for words in cases {
         let mut source = CalmSource::new(Vec::from_slice(alloc, script)?);
         let sink = MemorySink::new(alloc, 4096, 4096)?;
         let want: (&[u8], u8, u64) = (text, 0, 6);
-        assert_run(&rt, alloc, words, &mut source, sink, want, "rounds")?;
+        assert_run(&rt, alloc, words, &mut source, sink, want, "threads")?;
     }
+    Ok(())
+}
+
+/// Runs two workers on the first script, with this request in place of its own, past a gate at which
+/// they wait for each other.
+fn assert_meeting(
+    rt: &(impl Abort + Threads + Wait + Sync),
+    alloc: Global,
+    request: &[u8],
+    want: (&[u8], u8, u64),
+) -> Result<(), Fail> {
+    let mut script = Vec::from_slice(
+        alloc,
+        b"mod 101\nvars x\npoly Y^2 + x*Y + 1\nroots 10:1 -10:1\n",
+    )?;
+    script.extend_from_slice(request)?;
+    let mut source = CalmSource::new(script);
+    let sink = MemorySink::new(alloc, 4096, 4096)?;
+    let gate = Meeting::new();
+    let words = ["factor", "--workers", "2"];
+    assert_run_past(rt, alloc, &words, &mut source, sink, &gate, want, "gate")?;
+    assert!(rt; gate.met());
+    Ok(())
+}
+
+// One thread can't pass the gate, in whatever order it works.
+#[test]
+fn pipe_gate(rt: HostRuntime) -> Result<(), Fail> {
+    let alloc = rt.alloc();
+    let block =
+        b"precision 1\nfactor 1 root 10 times 1\nY^1: 1\nY^0: 91 + 51*x\nfactor 2 root 91 times 1\nY^1: 1\nY^0: 10 + 51*x\n";
+    assert_meeting(&rt, alloc, b"show 1\n", (block, 0, 4))?;
+    let stream =
+        b"stream 1\ndegree 0\n1 Y^1: 1\n1 Y^0: 91\n2 Y^1: 1\n2 Y^0: 10\ndegree 1\n1 Y^0: 51*x\n2 Y^0: 51*x\nend\n";
+    assert_meeting(&rt, alloc, b"stream 1\n", (stream, 0, 4))
+}
+
+// Each push that the sink refuses ends the run, behind the beginning that it has taken; the workers give
+// up where they would wait.
+#[test]
+fn a_stream_with_too_little_room(rt: HostRuntime) -> Result<(), Fail> {
+    let alloc = rt.alloc();
+    let stream =
+        b"stream 1\ndegree 0\n1 Y^1: 1\n1 Y^0: 91\n2 Y^1: 1\n2 Y^0: 10\ndegree 1\n1 Y^0: 51*x\n2 Y^0: 51*x\nend\n";
+    for room in 0..stream.len() {
+        let sink = MemorySink::new(alloc, room as u64, 7)?;
+        assert_short_stream(&rt, alloc, sink, stream.get(..room).ok_or("short")?)?;
+    }
+    Ok(())
+}
+
+/// Runs two workers on a stream for which the sink has no room: it takes this beginning.
+fn assert_short_stream(
+    rt: &(impl Abort + Threads + Wait + Sync),
+    alloc: Global,
+    mut sink: MemorySink,
+    text: &[u8],
+) -> Result<(), Fail> {
+    let script = b"mod 101\nvars x\npoly Y^2 + x*Y + 1\nroots 10:1 -10:1\nstream 1\n";
+    let mut source = CalmSource::new(Vec::from_slice(alloc, script)?);
+    let words = words_of(alloc, &["factor", "--workers", "2"])?;
+    let mut tally = Tally::new();
+    let status = run_words(
+        rt,
+        alloc,
+        words.as_slice(),
+        &mut source,
+        &mut sink,
+        &OpenGate,
+        &mut tally,
+    );
+    let steps = tally.finish();
+    assert_eq!(rt; (sink.bytes(), status), (text, 4));
+    assert!(rt; steps <= 4);
     Ok(())
 }
 
@@ -145,13 +251,14 @@ fn factors_are_raised_in_rounds(rt: HostRuntime) -> Result<(), Fail> {
 #[test]
 fn refused_words_pull_nothing(rt: HostRuntime) -> Result<(), Fail> {
     let alloc = rt.alloc();
-    let cases: [&[&str]; 8] = [
+    let cases: [&[&str]; 9] = [
         &[],
         &["factor", "now"],
         &["facto"],
         &["factor", "--rounds", "0"],
         &["factor", "--workers", "0"],
-        &["factor", "--workers", "2"],
+        &["factor", "--workers=65"],
+        &["factor", "now", "--workers", "2"],
         &["factor", "--rounds", "2", "--workers", "2"],
         &["demo", "18446744073709551616"],
     ];
@@ -300,7 +407,7 @@ const HEADER: &[u8] = b"mod 101\nvars x\npoly Y^2 + x*Y + 1\nroots 10:1 -10:1\nb
 
 /// Runs `check` on the header, behind which these lines stand.
 fn assert_check(
-    rt: &(impl Abort + Threads + Sync),
+    rt: &(impl Abort + Threads + Wait + Sync),
     alloc: Global,
     block: &[u8],
     want: (&[u8], u8, u64),

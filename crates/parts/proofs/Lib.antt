@@ -1,5 +1,7 @@
 pub mod Totals
 pub mod Ordered
+pub mod LowPowers
+pub mod PackedSums
 pub mod Filled
 pub mod Finished
 pub mod Collected

@@ -1,5 +1,5 @@
 -- The products of a term with a list of terms: their keys, their order, their totals.
-use Rattle.std.proofs.Common.{◌≡◌, ℕ, zero, suc, ◌+◌, ◌*◌, ◌%◌, ◌^◌, ◌<◌, ◌≤◌, List, [], ◌∷◌, ◌++◌, length, get_or}
+use Rattle.std.proofs.Common.{◌≡◌, ℕ, zero, suc, ◌+◌, ◌*◌, ◌%◌, ◌<◌, ◌≤◌, List, [], ◌∷◌, ◌++◌, length, get_or}
 use Rattle.std.proofs.Common.{take, drop, refl, sym, ◌∙◌, ap, subst, arith, All, inl, inr}
 use Rattle.std.specs.Ordering.{nat_cmp, ordering_then}
 use Rattle.std.specs.Cmp.{nat_cmp_is}
@@ -7,7 +7,7 @@ use Rattle.std.specs.Cmp.Lexicographic.{slice_cmp}
 use Rattle.std.specs.declared.cmp.Ordering.TheVariants.{Less, Equal, Greater}
 use Rattle.std.proofs.lemmas.Bool.{cases_order, cases_lt}
 use Rattle.std.proofs.lemmas.Nat.{mul-mod_first}
-use Rattle.std.proofs.Math.Nat.{mod-lt, le-mul_of_pos_right}
+use Rattle.std.proofs.Math.Nat.{mod-lt}
 use Rattle.ps_model.specs.Keys.{Key, Powers, powers_of, numbers, add_powers, key_compare, add_keys}
 use Rattle.ps_model.specs.Sums.{total}
 use Rattle.ps_model.proofs.Coefficients.{plus-mod}
@@ -15,13 +15,13 @@ use Rattle.parts.specs.declared.rings.Ring.{Ring}
 use Rattle.parts.specs.declared.terms.Term.{Term}
 use Rattle.parts.specs.Keys.{key_from}
 use Rattle.parts.specs.Rings.{modulus_of, weights_of}
-use Rattle.parts.specs.Places.{dot}
 use Rattle.parts.specs.Terms.{key_of, IsKeyOf}
 use Rattle.parts.specs.TermLists.{AreTermsOf, unless_zero, row_of}
 use Rattle.parts.proofs.Ordered.{ArePositive}
 use Rattle.parts.proofs.Collected.{IsKeyOf-add}
 use Rattle.parts.proofs.Built.{IsBuilt, built_push, rest_of, after_first, first_at}
 use Rattle.parts.proofs.Gained.{positive_take}
+use Rattle.parts.proofs.LowPowers.{dot_bound}
 
 pub sums_are : (n : ℕ) (zs xs ys : List ℕ) → length zs ≡ n →
     ((k : ℕ) → k < n → get_or zs k 0 ≡ get_or xs k 0 + get_or ys k 0) →
@@ -56,13 +56,6 @@ shifted_numbers (suc n) k x y = λ i. ordering_then (shifted_cmp k.0 x.0 y.0 i) 
 pub shifted_order : (k x y : Key 8) → key_compare 8 (add_keys 8 k x) (add_keys 8 k y) ≡ key_compare 8 x y
 shifted_order k x y = λ i. ordering_then (shifted_cmp k.y y.y x.y i) (shifted_numbers 8 k.powers y.powers x.powers i)
 
--- a power is at most the degree
-dot_bound : (ws xs : List ℕ) (i : ℕ) → ArePositive ws → i < length ws → get_or xs i 0 ≤ dot ws xs
-dot_bound [] xs i p lt = absurd (omega arith)
-dot_bound (w ∷ ws) [] i p lt = omega arith
-dot_bound (w ∷ ws) (x ∷ xs) zero p lt = omega (arith, le-mul_of_pos_right x p.0)
-dot_bound (w ∷ ws) (x ∷ xs) (suc i) p lt = omega (arith, dot_bound ws xs i p.1 (omega arith))
-
 number_at : (n : ℕ) (xs : List ℕ) (i : ℕ) → i < n → get_or (numbers n (powers_of n xs)) i 0 ≡ get_or xs i 0
 number_at zero xs i lt = absurd (omega arith)
 number_at (suc n) [] zero lt = refl
@@ -76,6 +69,7 @@ past_take (suc n) [] i le = refl
 past_take (suc n) (x ∷ xs) zero le = absurd (omega arith)
 past_take (suc n) (x ∷ xs) (suc i) le = past_take n xs i (omega arith)
 
+-- a power is at most the degree
 pub power_bound : (ws : List ℕ) (d : ℕ) (xs : List ℕ) (i : ℕ) → ArePositive ws → IsKeyOf ws d (key_from xs) →
     i < 8 → get_or xs i 0 ≤ d
 power_bound ws d xs i p h lt = elim (cases_lt i (length ws)) [
@@ -123,7 +117,7 @@ module _ (ring : Ring) (d e : ℕ) (us : List Term) (x : Term) (j : ℕ) (z : Te
   terms_here = subst (AreTermsOf ring e) (first_at us j z lt) terms
 
   pub powers_fit : d + e ≤ 4095 → (i : ℕ) → i < 8 →
-      get_or x.monomial.powers i 0 + get_or (get_or us j z).monomial.powers i 0 < 2 ^ 16
+      get_or x.monomial.powers i 0 + get_or (get_or us j z).monomial.powers i 0 ≤ 4095
   powers_fit low i at = omega (
     arith,
     power_bound (weights_of ring) d x.monomial.powers i (positive_take ring.n ring.weights ring.positive)

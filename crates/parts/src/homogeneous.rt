@@ -1,5 +1,5 @@
 //! Homogeneous parts.
-ghost use Rattle.std.specs.Prelude.{◌≡◌, ◌<◌, ◌↔◌, [], IfOk, IsTrue, map as map_list, slice_index, unwrap_or};
+ghost use Rattle.std.specs.Prelude.{◌≡◌, ◌<◌, ◌≤◌, ◌↔◌, [], All, IfOk, IsTrue, map as map_list, slice_index, unwrap_or};
 ghost use Rattle.std.specs.FinMap as map;
 ghost use Rattle.ps_model.specs.Keys.{key_compare, y_key};
 ghost use Rattle.ps_model.specs.FiniteMaps.{value_at};
@@ -47,7 +47,8 @@ fn single(
     powers: [u16; 8],
     c: u64,
 ) -> Result<Part, OutOfMemory>
-    requires { IsKeyOf (weights_of ring) degree (key_from powers) }
+    requires key { IsKeyOf (weights_of ring) degree (key_from powers) }
+    requires low { All (λ p. p ≤ 4095) powers }
     ensures degree { IfOk result (λ p. p.degree ≡ degree) }
     ensures map { IfOk result (λ p. p.map ≡ single_map ring (key_from powers) c) }
     ensures part { IfOk result (IsPartOf ring) }

@@ -87,10 +87,10 @@ pub fn place(sizes: &[usize], monomial: &Monomial) -> usize
     requires fits { dot sizes.now monomial.now.powers < 2 ^ 63 }
     ensures { result ≡ dot sizes.now monomial.now.powers }
 {
-    let powers = monomial.powers();
+    monomial.are_powers();
     let mut place = 0;
     for j in 0..sizes.len() {
-        place += sizes[j] * powers[j] as usize;
+        place += sizes[j] * monomial.power(j as u32) as usize;
     }
     place
 }

@@ -1,19 +1,21 @@
 //! Monomials and terms.
-ghost use Rattle.std.specs.Prelude.{◌≡◌, ℕ, ◌+◌, ◌^◌, ◌<◌, ◌≤◌, drop, slice_index, All};
+ghost use Rattle.std.specs.Prelude.{◌≡◌, ℕ, ◌+◌, ◌-◌, ◌*◌, ◌^◌, ◌<◌, ◌≤◌, drop, slice_index, All};
+ghost use Rattle.packed_powers.specs.Packed.{ArePowers};
 ghost use Rattle.ps_model.specs.Keys.{add_keys, key_compare};
-ghost use Rattle.parts.specs.Keys.{key_from};
+ghost use Rattle.residue.specs.Products.{sum_below};
 
 use crate::rings::Ring;
+use packed_powers::PackedPowers;
 use std::cmp::Ordering;
 use std::marker::Model;
 
-/// A product of powers of up to eight variables.
+/// A product of powers of up to eight variables, in one number of 96 bits.
 ///
 /// A contract sees the powers, and not how they are kept.
 #[derive(Clone, Copy, Debug, PartialEq, Eq)]
 pub struct Monomial {
     /// The power of each variable, each at most 4,095, and 0 past the ring's variables.
-    powers: [u16; 8],
+    packed: PackedPowers,
 }
 
 impl Model for Monomial {
@@ -21,12 +23,12 @@ impl Model for Monomial {
 
     ghost Value = { MonomialValue };
 
-    ghost view = { λ x. record { powers = x.powers } };
+    ghost view = { λ x. record { powers = x.packed.powers } };
 
-    ghost inverse = { λ v. record { powers = v.powers } };
+    ghost inverse = { λ v. record { packed = record { powers = v.powers } } };
 }
 
-/// A monomial and its coefficient, in 24 bytes.
+/// A monomial and its coefficient, in 32 bytes.
 #[derive(Clone, Copy, Debug, PartialEq, Eq)]
 pub struct Term {
     pub monomial: Monomial,
@@ -44,39 +46,45 @@ impl Monomial {
         ensures { powers_in result ≡ powers }
     {
         let _variables = ring.n();
-        Monomial { powers }
+        Monomial::of_powers(powers)
     }
 
     /// The same where no ring is at hand.
     pub(crate) fn of_powers(powers: [u16; 8]) -> Monomial
+        requires { All (λ p. p ≤ 4095) powers }
         ensures { powers_in result ≡ powers }
     {
-        Monomial { powers }
-    }
-
-    /// The powers of all eight variables.
-    pub(crate) fn powers(&self) -> &[u16; 8]
-        ensures { result.now ≡ powers_in self.now }
-    {
-        &self.powers
-    }
-
-    /// The product with another.
-    pub(crate) fn times(&self, other: &Monomial) -> Monomial
-        requires { (i : ℕ) → i < 8
-            → slice_index (powers_in self.now) i + slice_index (powers_in other.now) i < 2 ^ 16 }
-        ensures { key_of result ≡ add_keys 8 (key_of self.now) (key_of other.now) }
-    {
         Monomial {
-            powers: added_powers(&self.powers, &other.powers),
+            packed: PackedPowers::of(powers),
         }
     }
 
-    /// Where it stands beside another: the one with the greater first power comes first.
+    /// There are eight powers, each at most 4,095. Nothing is computed.
+    pub(crate) fn are_powers(&self)
+        ensures { ArePowers (powers_in self.now) }
+    {
+        self.packed.are_powers();
+    }
+
+    /// The product with another, by one addition.
+    pub(crate) fn times(&self, other: &Monomial) -> Monomial
+        requires { (i : ℕ) → i < 8
+            → slice_index (powers_in self.now) i + slice_index (powers_in other.now) i ≤ 4095 }
+        ensures { key_of result ≡ add_keys 8 (key_of self.now) (key_of other.now) }
+    {
+        let packed = self.packed.times(&other.packed);
+        packed.are_powers();
+        Monomial { packed }
+    }
+
+    /// Where it stands beside another, by one comparison: the one with the greater first power
+    /// comes first.
     pub(crate) fn order(&self, other: &Monomial) -> Ordering
         ensures { result ≡ key_compare 8 (key_of self.now) (key_of other.now) }
     {
-        compare_powers(&self.powers, &other.powers)
+        self.packed.are_powers();
+        other.packed.are_powers();
+        self.packed.order(&other.packed)
     }
 
     /// The power of variable i; 0 past the ring's variables.
@@ -84,25 +92,15 @@ impl Monomial {
         requires { i < 8 }
         ensures { result ≡ slice_index (powers_in self.now) i }
     {
-        u32::from(self.powers[i as usize])
+        self.packed.power(i)
     }
-}
 
-/// The powers of a product of monomials.
-fn added_powers(x: &[u16; 8], y: &[u16; 8]) -> [u16; 8]
-    requires { (i : ℕ) → i < 8 → slice_index x.now i + slice_index y.now i < 2 ^ 16 }
-    ensures { key_from result ≡ add_keys 8 (key_from x.now) (key_from y.now) }
-{
-    let mut powers = [0; 8];
-    for i in 0..8 {
-        powers[i] = x[i] + y[i];
+    /// The number of the monomial: 12 bits for each power, those of the first variable highest.
+    pub fn packed(&self) -> u128
+        ensures { result
+            ≡ sum_below 8 (λ i. slice_index (powers_in self.now) i * 2 ^ (12 * (7 - i))) }
+    {
+        self.packed.are_powers();
+        self.packed.packed()
     }
-    powers
-}
-
-/// Where powers stand beside others: those with the greater first power come first.
-fn compare_powers(powers: &[u16; 8], other: &[u16; 8]) -> Ordering
-    ensures { result ≡ key_compare 8 (key_from powers.now) (key_from other.now) }
-{
-    other.cmp(powers)
 }

@@ -4,8 +4,37 @@ use residue::Modulus;
 use std::test::Fail;
 
 #[test]
-fn a_term_takes_32_bytes_at_most(rt: HostRuntime) {
-    assert!(rt; size_of::<Term>() <= 32);
+fn a_term_takes_32_bytes(rt: HostRuntime) {
+    assert_eq!(rt; size_of::<Monomial>(), 16);
+    assert_eq!(rt; size_of::<Term>(), 32);
+}
+
+#[test]
+fn a_monomial_is_one_number(rt: HostRuntime) -> Result<(), Fail> {
+    let modulus = Modulus::new(7)?;
+    for (name, n, powers, number) in [
+        // 3 * 2^84 + 4 * 2^72
+        (
+            "x^3 y^4",
+            2,
+            [3, 4, 0, 0, 0, 0, 0, 0],
+            58047328807433678966751232,
+        ),
+        ("1", 1, [0; 8], 0),
+        ("the last variable", 8, [0, 0, 0, 0, 0, 0, 0, 1], 1),
+        // 2^96 - 1
+        (
+            "the greatest powers",
+            8,
+            [4095; 8],
+            79228162514264337593543950335,
+        ),
+    ] {
+        let at = Monomial::of(Ring::new(modulus, n), powers);
+        assert_eq!(rt; at.packed(), number, "the number of {name}");
+        assert_eq!(rt; at.power(1), u32::from(powers[1]), "power 1 of {name}");
+    }
+    Ok(())
 }
 
 #[test]

@@ -1,5 +1,5 @@
 -- A job in the ring of its parts is the job itself.
-use Rattle.std.proofs.Common.{◌≡◌, refl, sym, subst}
+use Rattle.std.proofs.Common.{◌≡◌, sym, subst}
 use Rattle.ps_model.specs.declared.job.JobData.{JobData}
 use Rattle.ps_model.specs.AcceptedJob.{IsAccepted, IsLawfulJob}
 use Rattle.ps_model.proofs.JobRoots.{accepted_lawful}

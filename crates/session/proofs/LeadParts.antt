@@ -1,8 +1,7 @@
 -- The lead's parts, one more at a time.
-use Rattle.std.proofs.Common.{◌≡◌, ℕ, suc, ◌+◌, ◌<◌, ◌≤◌, List, [], ◌∷◌, ◌++◌, length, get_or, refl}
+use Rattle.std.proofs.Common.{◌≡◌, ℕ, ◌<◌, List, [], ◌∷◌, ◌++◌, length}
 use Rattle.std.proofs.Common.{sym, ◌∙◌, ap, subst}
 use Rattle.std.proofs.Common.{arith, inl, inr}
-use Rattle.std.specs.Prelude.{max}
 use Rattle.std.proofs.lemmas.Bool.{cases_lt}
 use Rattle.std.proofs.lemmas.List.{append-nil, append_assoc, get_or_append_left, get_or_push, length-map, length_push}
 use Rattle.std.proofs.lemmas.List.{map_push}
@@ -11,7 +10,7 @@ use Rattle.std.specs.declared.alloc.Global.{Global}
 use Rattle.std.specs.declared.sync.Arc.{Arc}
 use Rattle.ps_model.specs.declared.job.JobData.{JobData}
 use Rattle.parts.specs.PartValue.{PartValue}
-use Rattle.parts.specs.RowsOfParts.{parts_of, part_in, nothing}
+use Rattle.parts.specs.RowsOfParts.{parts_of, nothing}
 use Rattle.intake.specs.Jobs.{IsLeadPartOf}
 use Rattle.session.specs.Leads.{AreLeadParts, ExtendsLead}
 

@@ -1,5 +1,5 @@
 -- The lead's parts of a session, put together, are the lead.
-use Rattle.std.proofs.Common.{◌≡◌, ℕ, suc, ◌<◌, ◌≤◌, List, [], ◌∷◌, Bool, true, false, ◌↔◌, IsTrue, Option, Some, None}
+use Rattle.std.proofs.Common.{◌≡◌, ℕ, suc, ◌<◌, ◌≤◌, [], ◌∷◌, Bool, true, false, ◌↔◌, IsTrue, Option, Some, None}
 use Rattle.std.proofs.Common.{length, take, get_or, refl, sym, ◌∙◌, ap, subst, arith}
 use Rattle.std.specs.Prelude.{if◌then◌else◌}
 use Rattle.std.proofs.lemmas.List.{length-map, length-take-le, get_or-map, get_or-take}
@@ -21,7 +21,7 @@ use Rattle.ps_model.proofs.SliceValues.{slice_at-truncated, slice_at-swap, down-
 use Rattle.ps_model.proofs.Truncations.{truncated-zero}
 use Rattle.parts.specs.PartValue.{PartValue}
 use Rattle.parts.specs.RowsOfParts.{nothing, part_in}
-use Rattle.parts.specs.Series.{series, maps_modulo, row_maps, rows_maps, polynomial_in, polynomial_of}
+use Rattle.parts.specs.Series.{series, maps_modulo, row_maps, rows_maps, polynomial_in}
 use Rattle.parts.specs.declared.rings.Ring.{Ring}
 use Rattle.parts.proofs.Polynomials.{part_of-row}
 use Rattle.stages.proofs.RowPairs.{AreRowsFor, together}

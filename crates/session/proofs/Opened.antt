@@ -1,7 +1,8 @@
 -- Sessions that are opened.
-use Rattle.std.proofs.Common.{◌≡◌, ℕ, zero, suc, ◌+◌, ◌<◌, ◌≤◌, ◌↔◌, Bool, IsTrue, List, [], ◌∷◌, length, map, get_or}
+use Rattle.std.proofs.Common.{◌≡◌, ℕ, zero, suc, ◌+◌, ◌<◌, ◌↔◌, Bool, IsTrue, List, [], ◌∷◌, length, map, get_or}
 use Rattle.std.proofs.Common.{replicate, take, refl, sym, ◌∙◌, ap, subst, arith, None}
 use Rattle.std.specs.Prelude.{slice_index}
+use Rattle.std.proofs.lemmas.List.{get_or-map}
 use Rattle.std.proofs.lemmas.Option.{slice_get_within}
 use Rattle.ps_model.specs.AcceptedJob.{IsAccepted}
 use Rattle.ps_model.specs.Job.{job_ring}
@@ -18,7 +19,6 @@ use Rattle.stages.specs.States.{StageState}
 use Rattle.expr_reader.specs.NameLists.{AreVariables}
 use Rattle.expr_reader.proofs.AsNames.{names_as_names}
 use Rattle.intake.specs.Jobs.{JobValue}
-use Rattle.session.specs.Calls.{IsFresh}
 use Rattle.session.specs.Precisions.{weights_in, IsGreatestPermitted}
 use Rattle.session.specs.Sessions.{SessionState, IsSession}
 
@@ -49,9 +49,9 @@ without_names (x ∷ xs) (suc s) = without_names xs s
 
 module _ (job : JobData) (ring : Ring) (capacities : List ℕ) (names : List (List ℕ)) (states : List StageState)
     (capacity : ℕ) (fresh : AreFresh job ring capacities names states)
-    (same : capacities ≡ replicate (length job.roots) capacity) (none : (s : ℕ) → get_or names s [] ≡ []) where
-  pub fresh_stages : AreFresh job ring (replicate (length job.roots) capacity) [] states
-  fresh_stages = record {
+    (same : capacities ≡ replicate (length job.roots) capacity) where
+  pub fresh_stages : ((s : ℕ) → get_or names s [] ≡ []) → AreFresh job ring (replicate (length job.roots) capacity) [] states
+  fresh_stages none = record {
     count = fresh.count;
     each = λ s d lt. fresh.each s d lt ∙ (λ i. record {
       title = record { job = job; stage = s };
@@ -70,6 +70,22 @@ module _ (job : JobData) (ring : Ring) (capacities : List ℕ) (names : List (Li
       ∙ replicate-at (length job.roots) capacity s (let count = fresh.count in omega arith) in
       omega arith
 
+-- named as they are
+pub fresh_by_own : (job : JobData) (ring : Ring) (capacities : List ℕ) (names : List (List ℕ)) (states : List StageState)
+    → AreFresh job ring capacities names states → AreFresh job ring capacities (map (λ (t : StageState). t.name) states) states
+fresh_by_own job ring capacities names states fresh = record {
+  count = fresh.count;
+  each = λ s d lt. fresh.each s d lt ∙ (λ i. record {
+    title = record { job = job; stage = s };
+    ring = ring;
+    capacity = slice_index capacities s;
+    name = (sym (ap (λ (t : StageState). t.name) (fresh.each s d lt))
+        ∙ sym (get_or-map (λ (t : StageState). t.name) states s d [] lt)) i;
+    items = [];
+    preparation = None;
+  });
+}
+
 -- the same of the job that the stages were made for
 pub fresh_of : (job other : JobData) (ring : Ring) (capacities : List ℕ) (names : List (List ℕ))
     (states : List StageState)
@@ -80,44 +96,50 @@ fresh_of job other ring capacities names states capacity is fresh same none =
     fresh_stages job ring capacities names states capacity
     (subst (λ (j : JobData). AreFresh j ring capacities names states) is fresh) same none
 
+-- the same of rows with names
+pub fresh_named : (job other : JobData) (ring : Ring) (capacity : ℕ) (names : List (List ℕ)) (states line : List StageState)
+    → other ≡ job → line ≡ states → AreFresh other ring (replicate (length other.roots) capacity) names states
+    → AreFresh job ring (replicate (length job.roots) capacity) names line
+fresh_named job other ring capacity names states line is same fresh =
+    subst (AreFresh job ring (replicate (length job.roots) capacity) names) (sym same)
+    (subst (λ (j : JobData). AreFresh j ring (replicate (length j.roots) capacity) names states) is fresh)
+
 module _ (job : JobValue) (ring : Ring) (shows_lead : Bool) (states : List StageState) (lead : List PartValue)
     (greatest : ℕ) (is_ring : IsRingOf ring job.job)
     (is : IsGreatestPermitted (weights_of ring) greatest) (ok : IsAccepted job.job) (empty : lead ≡ [])
-    (fresh : AreFresh job.job ring (replicate (length job.job.roots) (greatest + 1)) [] states) where
-  abbrev state : SessionState
-  state = record { job = job; ring = ring; shows_lead = shows_lead; stages = states; lead = lead }
+    {names : List (List ℕ)} (fresh : AreFresh job.job ring (replicate (length job.job.roots) (greatest + 1)) names states)
+  where
+    abbrev state : SessionState
+    state = record { job = job; ring = ring; shows_lead = shows_lead; stages = states; lead = lead }
 
-  none_here : {T : Type 0} (r : ℕ) → r < length lead → T
-  none_here r lt = let count = ap length empty in absurd (omega arith)
+    none_here : {T : Type 0} (r : ℕ) → r < length lead → T
+    none_here r lt = let count = ap length empty in absurd (omega arith)
 
-  pub permitted_low : (d : ℕ) → IsPermitted (weights_in job.job) d → d < greatest + 1
-  permitted_low d also = let low = is.greatest d (subst (λ ws. IsPermitted ws d)
-      (sym (same_weights ring job.job is_ring)) also) in omega arith
+    pub permitted_low : (d : ℕ) → IsPermitted (weights_in job.job) d → d < greatest + 1
+    permitted_low d also = let low = is.greatest d (subst (λ ws. IsPermitted ws d)
+        (sym (same_weights ring job.job is_ring)) also) in omega arith
 
-  pub opened : AreVariables job.names → length job.names ≡ job.job.n
-      → IsTrue shows_lead ↔ IsLeadShown (job_ring job.job) job.job.expr → IsSession state
-  opened variables count shown = record {
-    ring_is = is_ring;
-    named = let long = ap length (names_as_names job.names variables.valid) in omega arith;
-    shown = shown;
-    of_job = record {
-      accepted = ok;
-      count = fresh.count;
-      title = λ s d lt. ap (λ (t : StageState). t.title) (fresh.each s d lt);
-    };
-    room = λ d also. fresh_room job.job ring _ [] states (greatest + 1) fresh refl (λ s. refl) d (permitted_low d also);
-    lead = λ r lt. none_here r lt;
-    few = let count = ap length empty in omega arith;
-  }
+    pub opened : AreVariables job.names → length job.names ≡ job.job.n
+        → IsTrue shows_lead ↔ IsLeadShown (job_ring job.job) job.job.expr → IsSession state
+    opened variables count shown = record {
+      ring_is = is_ring;
+      named = let long = ap length (names_as_names job.names variables.valid) in omega arith;
+      shown = shown;
+      of_job = record {
+        accepted = ok;
+        count = fresh.count;
+        title = λ s d lt. ap (λ (t : StageState). t.title) (fresh.each s d lt);
+      };
+      room = λ d also. fresh_room job.job ring _ names states (greatest + 1) fresh refl d (permitted_low d also);
+      lead = λ r lt. none_here r lt;
+      few = let count = ap length empty in omega arith;
+    }
 
-  pub opened_fresh : (d : ℕ) → IsGreatestPermitted (weights_in job.job) d → IsFresh (d + 1) job state
-  opened_fresh d also = record {
-    same_job = refl;
-    stages = subst (λ k. AreFresh job.job ring (replicate (length job.job.roots) (k + 1)) [] states)
+    pub opened_stages : (d : ℕ) → IsGreatestPermitted (weights_in job.job) d
+        → AreFresh job.job ring (replicate (length job.job.roots) (d + 1)) names states
+    opened_stages d also = subst (λ k. AreFresh job.job ring (replicate (length job.job.roots) (k + 1)) names states)
         (greatest_once (weights_in job.job) greatest d
-        (subst (λ ws. IsGreatestPermitted ws greatest) (same_weights ring job.job is_ring) is) also) fresh;
-    lead = empty;
-  }
+        (subst (λ ws. IsGreatestPermitted ws greatest) (same_weights ring job.job is_ring) is) also) fresh
 
 -- no item doesn't fit
 fit_none : (P : ℕ → StageItemValue → Type 0) (xs : List StageItemValue) → xs ≡ [] → AllFit P xs

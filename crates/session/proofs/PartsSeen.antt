@@ -21,7 +21,7 @@ use Rattle.stages.specs.Items.{StageItemValue, IsItem}
 use Rattle.stages.specs.Slices.{AreSlices, factor_at}
 use Rattle.stages.specs.States.{StageState}
 use Rattle.stages.specs.Titles.{times_at}
-use Rattle.printer.specs.View.{HasUpTo, row_at, part_at}
+use Rattle.printer.specs.View.{HasUpTo, row_at}
 use Rattle.session.specs.FactorParts.{IsFactorPart}
 use Rattle.session.specs.Sessions.{SessionState, IsSession, HasItems, value_of}
 use Rattle.session.specs.Views.{no_stage, no_item, rows_are, items_count}

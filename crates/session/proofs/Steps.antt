@@ -1,15 +1,12 @@
 -- Sessions whose lead is extended, and whose line is raised.
-use Rattle.std.proofs.Common.{◌≡◌, ℕ, suc, ◌+◌, ◌<◌, ◌≤◌, List, [], ◌∷◌, ◌++◌, length, get_or, refl}
+use Rattle.std.proofs.Common.{◌≡◌, ℕ, ◌+◌, ◌<◌, ◌≤◌, List, [], length, get_or, refl}
 use Rattle.std.proofs.Common.{sym, ◌∙◌, ap, subst}
-use Rattle.std.proofs.Common.{arith, max, OnOk, Result, Ok, Err, IsOk}
+use Rattle.std.proofs.Common.{arith, max}
 use Rattle.std.proofs.lemmas.List.{append-nil, length-append}
 use Rattle.ps_model.specs.declared.job.JobData.{JobData}
 use Rattle.parts.specs.PartValue.{PartValue}
-use Rattle.rows.specs.Fits.{AllFit}
-use Rattle.stages.specs.Items.{IsItem}
 use Rattle.stages.specs.Lines.{AreKept, AllReach, NoneExceeds}
 use Rattle.stages.specs.States.{StageState, prepared_of}
-use Rattle.intake.specs.Jobs.{JobValue}
 use Rattle.session.specs.Calls.{IsWithin}
 use Rattle.session.specs.Leads.{AreLeadParts, ExtendsLead}
 use Rattle.session.specs.Sessions.{SessionState, IsSession, HasItems}
@@ -94,3 +91,12 @@ none_exceeds_same n xs s d lt = omega arith
 
 pub reach_within : (n : ℕ) (xs ys : List StageState) → AllReach n xs ys → NoneExceeds n xs ys
 reach_within n xs ys reach s d lt = let both = (reach s d lt).1 in omega arith
+
+-- a lead that has the degree has the greater of what was asked for and what it had
+pub lead_raised : (to : ℕ) (old new : List PartValue) → ExtendsLead (to + 1) old new → to < length new
+    → length new ≡ max (to + 1) (length old)
+lead_raised to old new extends far =
+    let most = extends.count in
+    let more = ap length extends.begins in
+    let long = length-append old extends.more in
+    omega arith

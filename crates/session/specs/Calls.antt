@@ -1,5 +1,6 @@
 -- Sessions from one call to the next.
 --     IsFresh capacity job s      a session of the job in which nothing is there: each row has room for so many items
+--     IsFreshShared capacity job s      the same over shared rows, which have names
 --     HaveAll n s      each row and the lead have n parts at least
 --     KeepsSession old new      the job, the ring and whether the lead is shown stay; of each row and of the lead what
 --         is there stays
@@ -8,7 +9,7 @@
 --         of n and what was prepared
 --     IsEven n s      each row, each preparation and the lead have n
 --     prepared_degrees s      how many degrees are prepared, added up over the stages
-use Rattle.std.specs.Prelude.{◌≡◌, ℕ, ◌<◌, ◌≤◌, max, List, [], ◌++◌, length, replicate, sum_by, slice_index_or}
+use Rattle.std.specs.Prelude.{◌≡◌, ℕ, ◌<◌, ◌≤◌, max, List, [], ◌++◌, length, map, replicate, sum_by, slice_index_or}
 use Rattle.parts.specs.PartValue.{PartValue}
 use Rattle.stages.specs.Lines.{AreFresh, AllHave, AreKept, AllReach, NoneExceeds}
 use Rattle.stages.specs.States.{StageState, prepared_of}
@@ -18,6 +19,12 @@ use Rattle.session.specs.Sessions.{SessionState}
 pub record IsFresh (capacity : ℕ) (job : JobValue) (s : SessionState) : Type 0 where
   pub same_job : s.job ≡ job
   pub stages : AreFresh job.job s.ring (replicate (length job.job.roots) capacity) [] s.stages
+  pub lead : s.lead ≡ []
+
+pub record IsFreshShared (capacity : ℕ) (job : JobValue) (s : SessionState) : Type 0 where
+  pub same_job : s.job ≡ job
+  pub stages : AreFresh job.job s.ring (replicate (length job.job.roots) capacity)
+      (map (λ (t : StageState). t.name) s.stages) s.stages
   pub lead : s.lead ≡ []
 
 abbrev pub HaveAll : ℕ → SessionState → Type 0

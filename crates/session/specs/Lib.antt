@@ -6,3 +6,9 @@ pub mod Calls
 pub mod Factors
 pub mod Props
 pub mod Views
+pub mod ViewTexts
+pub mod Shared
+pub mod Seen
+pub mod SeenBy
+pub mod Streams
+pub mod Extended

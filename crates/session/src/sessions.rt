@@ -19,6 +19,8 @@ ghost use Rattle.session.specs.FactorParts.{IsFactorPart};
 ghost use Rattle.session.specs.Sessions.{SessionState, IsSession, HasItems, value_of};
 ghost use Rattle.session.specs.Calls.{IsFresh, HaveAll, KeepsSession, IsRaised, IsWithin, prepared_degrees};
 ghost use Rattle.session.specs.Props.{IsSession-IsProp, HasItems-IsProp};
+ghost use Rattle.pipe.specs.Looks.{state_of};
+ghost use Rattle.session.specs.Shared.{place_of, HaveRead, HaveRead-IsProp};
 
 use crate::lead::extend_lead;
 use crate::precision::greatest_permitted;
@@ -26,7 +28,7 @@ use intake::Job;
 use parts::{Part, Ring};
 use prepare::{Prep, Tally};
 use ps_model::{NameView, OutOfMemory};
-use rows::{OwnRow, RowOut};
+use rows::{OwnRow, RowOut, RowReader};
 use stages::{Line, LineView, StageItem, empty_rows};
 use std::alloc::Global;
 use std::marker::Sync;
@@ -47,13 +49,18 @@ pub trait SessionView {
 /// The rows of the factors have a kind of their own, and take no memory once they are made.
 #[derive(Drop)]
 pub struct Session<R: RowOut<StageItem>> {
-    job: Job,
-    ring: Ring,
+    pub(crate) alloc: Global,
+    pub(crate) job: Job,
+    pub(crate) ring: Ring,
     /// Whether the lead isn't known to be 1.
-    shows_lead: bool,
-    line: Line<R>,
+    pub(crate) shows_lead: bool,
+    pub(crate) line: Line<R>,
     /// The parts of the lead, in memory that is taken when the session is opened.
-    lead: Vec<Arc<Part>>,
+    pub(crate) lead: Vec<Arc<Part>>,
+    /// Where the rows are shared, a reader of each for the workers.
+    pub(crate) inner: Vec<RowReader<StageItem>>,
+    /// Where the rows are shared, a reader of each, until it is taken.
+    pub(crate) outer: Vec<Option<RowReader<StageItem>>>,
     ghost same_job: { arc_value line.job ≡ job.job } by { Coded-set the_row.coded _ _ },
     ghost holds: { IsSession (record {
       job = job;
@@ -70,6 +77,9 @@ pub struct Session<R: RowOut<StageItem>> {
       lead = parts_of lead.items;
     }) } by { HasItems-IsProp _ },
     ghost reserved: { (d : ℕ) → IsPermitted (weights_in job.job) d → d < vec_capacity lead },
+    ghost read: { HaveRead
+        (map (λ s. state_by R.capacity R.name R.items s.splitter s.row) line.stages.items)
+        (map state_of inner.items) (map place_of outer.items) } by { HaveRead-IsProp _ _ _ },
 }
 
 impl<R: RowOut<StageItem>> SessionView for Session<R> {
@@ -117,11 +127,14 @@ impl Session<OwnRow<StageItem>> {
         };
         let lead = Vec::with_capacity(alloc, capacity as usize)?;
         Ok(Session {
+            alloc,
             job,
             ring,
             shows_lead,
             line,
             lead,
+            inner: Vec::new(alloc),
+            outer: Vec::new(alloc),
         })
     }
 }

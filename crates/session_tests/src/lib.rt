@@ -11,6 +11,12 @@ mod rounds;
 #[cfg(test)]
 mod sessions;
 
+// `session`, over shared rows
+#[cfg(test)]
+mod beside;
+#[cfg(test)]
+mod shared;
+
 // `printer`, from sessions
 #[cfg(test)]
 mod printing;

@@ -24,12 +24,12 @@ struct Case<'c> {
 }
 
 /// Writes the block of a session, where it is known up to there; whether it went without a fault.
-pub fn write_known_block(
+pub fn write_known_block<V: BlockView>(
     sink: &mut MemorySink,
-    session: &Session<OwnRow<StageItem>>,
+    session: &V,
     d: u32,
 ) -> Result<bool, Fail> {
-    match BlockView::known(session) {
+    match session.known() {
         Some(known) if d <= known => Ok(write_block(sink, session, d).is_ok()),
         _ => Err("not known")?,
     }

@@ -1,9 +1,14 @@
 //! Sessions that are raised in rounds, by several workers.
+ghost use Rattle.std.specs.Prelude.{◌≡◌, IfOk, length};
+ghost use Rattle.ps_model.specs.AcceptedJob.{IsAccepted};
+
 use crate::made::{job_of, raised};
 use crate::printing::write_known_block;
+use intake::Job;
 use parts::permitted;
 use ports::MemorySink;
 use prepare::Tally;
+use printer::BlockView;
 use rows::OwnRow;
 use session::Session;
 use stages::StageItem;
@@ -13,17 +18,25 @@ use std::process::Abort;
 use std::test::Fail;
 use std::thread::Threads;
 
-/// A session of a cubic polynomial with three factors.
-fn cubic(alloc: Global) -> Result<Session<OwnRow<StageItem>>, Fail> {
-    let job = job_of(
+/// The job of a cubic polynomial with three factors.
+pub fn cubic_job(alloc: Global) -> Result<Job, Fail>
+    ensures accepted { IfOk result (λ job. IsAccepted job.job) }
+    ensures names { IfOk result (λ job. length job.names ≡ job.job.n) }
+{
+    let roots = &[(0, 1), (1, 1), (2, 1)];
+    job_of(
         alloc,
         101,
         &["x", "y"],
         1,
         b"Y*(Y-1)*(Y-2) + x + y*Y",
-        &[(0, 1), (1, 1), (2, 1)],
-    )?;
-    Ok(Session::open(alloc, job)?)
+        roots,
+    )
+}
+
+/// A session of that job.
+fn cubic(alloc: Global) -> Result<Session<OwnRow<StageItem>>, Fail> {
+    Ok(Session::open(alloc, cubic_job(alloc)?)?)
 }
 
 /// Raises a session in rounds, to a degree that may be asked for.
@@ -41,10 +54,10 @@ fn raised_in_rounds(
     Ok(())
 }
 
-/// The session's block of this precision.
-fn block_of(
+/// The block of this precision of a session.
+pub fn block_of<V: BlockView>(
     alloc: Global,
-    session: &Session<OwnRow<StageItem>>,
+    session: &V,
     precision: u32,
 ) -> Result<MemorySink, Fail> {
     let mut sink = MemorySink::new(alloc, 4096, 64)?;

@@ -1,35 +1,41 @@
-use Rattle.std.proofs.Common.{subst}
-use Rattle.script.specs.Header.{HeaderSays}
+use Rattle.std.proofs.Common.{◌∙◌, subst, sym}
 use Rattle.script.specs.Header as header
 use Rattle.script.specs.Refusals.{line_refused}
-use Rattle.script.specs.Sayings.{said_of, CanBeFactored, Refuses}
+use Rattle.script.specs.Sayings.{Refuses}
+use Rattle.script.specs.Script as script
+use Rattle.script.specs.declared.refusal.Refusal.TheVariants.{LineTooLong}
 use Rattle.commands.specs.Lines.{Refuses as Told}
-use Rattle.commands.specs.declared.reading.Reading.TheVariants.{Begun}
+use Rattle.commands.specs.Readings.{Begun}
 use Rattle.commands.proofs.HeaderOnce.{does_header}
-use Rattle.commands.proofs.LinesDone.{longer_line, refused_line}
-use Rattle.commands.proofs.LinesRead.{made_line}
+use Rattle.commands.proofs.LinesDone.{does_long, does_skip, refused_line, skipped_line}
+use Rattle.commands.proofs.LinesRead.{read_line}
 use Rattle.commands.proofs.reading.read_header.Goals as goal
 
-pub returns-in-Ok-Longer : goal.returns-in-Ok-Longer
-returns-in-Ok-Longer g c = λ tally. longer_line c.args.command c.args.header c.in-Ok-Longer.header c.args.line.now
-    c.args.number _ _ tally (does_header c.args.command c.args.header c.args.line.now
-    (header.Longer c.in-Ok-Longer.header) c.requires.short c.requires.read
-    (subst (λ s. HeaderSays c.args.header c.args.line.now (said_of s)) c.in-Ok-Longer.field-0-is
-    c.in-Ok-Longer.ensures.said))
+pub returns-then-line-gt-LONGEST_LINE-clause-answers : goal.returns-then-line-gt-LONGEST_LINE-clause-answers
+returns-then-line-gt-LONGEST_LINE-clause-answers g c = λ command tally.
+    refused_line command (Begun c.args.header) c.args.line.now c.args.number _ _ tally LineTooLong c.refuse_line.result
+    _ _ (does_long command (script.Begun c.args.header) c.args.line.now c.if-line-gt-LONGEST_LINE.true)
+    c.refuse_line.ensures
 
-pub returns-in-Ok-Makes : goal.returns-in-Ok-Makes
-returns-in-Ok-Makes g c = λ tally. made_line c.args.command c.args.header c.in-Ok-Makes.job.names
-    c.in-Ok-Makes.job.job c.open.result c.args.line.now c.args.number _ _ tally c.requires.short c.requires.read
-    (subst (λ s. HeaderSays c.args.header c.args.line.now (said_of s)) c.in-Ok-Makes.field-0-is
-    c.in-Ok-Makes.ensures.said)
-    (subst CanBeFactored c.in-Ok-Makes.field-0-is c.in-Ok-Makes.ensures.accepted).0 c.open.ensures.opened c.open.ensures.refused
+pub returns-then-is_skipped-clause-answers : goal.returns-then-is_skipped-clause-answers
+returns-then-is_skipped-clause-answers g c = λ command tally.
+    skipped_line command (Begun c.args.header) c.args.line.now c.args.number _ _ tally tt
+    (does_skip command (script.Begun c.args.header) c.args.line.now c.if-line-gt-LONGEST_LINE.false
+    (sym c.is_skipped.ensures ∙ c.if-is_skipped.true))
 
-pub returns-in-Err-Line : goal.returns-in-Err-Line
-returns-in-Err-Line g c = λ tally. refused_line c.args.command (Begun c.args.header) c.args.line.now c.args.number _ _
-    tally c.in-Err-Line.refusal c.refuse_line.result _ _ (does_header c.args.command c.args.header c.args.line.now
-    (header.Refused c.in-Err-Line.refusal) c.requires.short c.requires.read
+pub returns-in-Ok-clause-answers : goal.returns-in-Ok-clause-answers
+returns-in-Ok-clause-answers g c = λ command tally.
+    read_line command c.args.header c.in-Ok.said c.args.line.now c.args.number _ _ tally c.if-line-gt-LONGEST_LINE.false
+    (sym c.is_skipped.ensures ∙ c.if-is_skipped.false) c.in-Ok.ensures.said c.in-Ok.ensures.accepted
+
+pub returns-in-Err-Line-clause-answers : goal.returns-in-Err-Line-clause-answers
+returns-in-Err-Line-clause-answers g c = λ command tally.
+    refused_line command (Begun c.args.header) c.args.line.now c.args.number _ _ tally c.in-Err-Line.refusal
+    c.refuse_line-in-Err-Line.result _ _ (does_header command c.args.header c.args.line.now
+    (header.Refused c.in-Err-Line.refusal) c.if-line-gt-LONGEST_LINE.false
+    (sym c.is_skipped.ensures ∙ c.if-is_skipped.false)
     (subst (Refuses c.args.header c.args.line.now) c.in-Err-Line.field-0-is c.in-Err-Line.ensures.refused))
-    (subst (λ f. Told c.refuse_line.result (g.K.Sink.written c.args.sink.now)
-    (g.K.Sink.written c.refuse_line.new.sink) (g.K.Sink.faults c.args.sink.now)
-    (g.K.Sink.faults c.refuse_line.new.sink) (line_refused c.args.number f)) c.in-Err-Line.refusal-is
-    c.refuse_line.ensures)
+    (subst (λ f. Told c.refuse_line-in-Err-Line.result (g.K.Sink.written c.args.sink.now)
+    (g.K.Sink.written c.refuse_line-in-Err-Line.new.sink) (g.K.Sink.faults c.args.sink.now)
+    (g.K.Sink.faults c.refuse_line-in-Err-Line.new.sink) (line_refused c.args.number f)) c.in-Err-Line.refusal-is
+    c.refuse_line-in-Err-Line.ensures)

@@ -1,10 +1,11 @@
-use Rattle.std.proofs.Common.{◌≡◌, ◌-◌, [], List, cond, take, sym, ◌∙◌, ap, subst, arith}
+use Rattle.std.proofs.Common.{◌-◌, ◌<◌, List, All, cond, take, sym, ◌∙◌, ap, subst, arith}
 use Rattle.std.specs.Prelude.{Some, None}
 use Rattle.residue.specs.ProductSums.{ProductSumValue}
 use Rattle.parts.specs.CrossedEntries.{left_in}
 use Rattle.parts.specs.Places.{size}
-use Rattle.parts.specs.Rings.{weights_of}
 use Rattle.parts.specs.declared.terms.Term.{Term}
+use Rattle.parts.proofs.Gained.{all_take}
+use Rattle.parts.proofs.LowPowers.{filled_low}
 use Rattle.parts.proofs.LeftTerms.{left_none, left_skip, left_key, left_pair, left_push, left_all}
 use Rattle.parts.proofs.PlacesBuilt.{ArePlacesFrom}
 use Rattle.parts.proofs.crossed.left_terms.Goals as goal
@@ -20,6 +21,14 @@ loop-at-init c = record {
       (c.in-Some.ensures.count ∙ (λ i. size (c.degree-degree.ensures i)
       (take (c.n-n.ensures.variables i) (c.weights-weights.ensures i)))));
 }
+
+pub of_powers-monomial-requires : goal.of_powers-monomial-requires
+of_powers-monomial-requires c =
+    filled_low c.degree-degree.result (take c.n-n.result c.weights-weights.result) c.fill_powers.new.powers
+    (c.loop-at.at - 1) c.n-n.result
+    (subst (λ ws. All (λ w. 0 < w) (take c.n-n.result ws)) (sym c.weights-weights.ensures)
+    (all_take (λ w. 0 < w) c.n-n.result c.args.ring.weights c.args.ring.positive)) (omega arith)
+    (c.fill_powers.ensures ∙ ap (λ b. cond b (Some c.fill_powers.new.powers) None) c.if-fill_powers.true)
 
 pub left_at-coefficient-requires-clause-key : goal.left_at-coefficient-requires-clause-key
 left_at-coefficient-requires-clause-key c =

@@ -11,7 +11,7 @@ pub of_terms-requires : goal.of_terms-requires
 of_terms-requires c =
     (single_pushed c.args.ring c.args.degree _ c.args.c c.new-terms.result.items c.push_nonzero.new.terms.items
     c.new-terms.ensures.items c.in_ok-push_nonzero.ensures (subst (λ l. IsKeyOf (weights_of c.args.ring) c.args.degree
-    (key_from l)) (sym c.of_powers.ensures) c.requires)
+    (key_from l)) (sym c.of_powers.ensures) c.requires.key)
     (c.reduce.ensures ∙ ap (λ m. c.args.c % m) c.modulus.ensures)).terms
 
 pub returns-clause-map : goal.returns-clause-map
@@ -21,5 +21,5 @@ returns-clause-map c = c.of_terms.ensures.map ∙
     c.of_powers.ensures
     (single_pushed c.args.ring c.args.degree _ c.args.c c.new-terms.result.items c.push_nonzero.new.terms.items
     c.new-terms.ensures.items c.in_ok-push_nonzero.ensures (subst (λ l. IsKeyOf (weights_of c.args.ring) c.args.degree
-    (key_from l)) (sym c.of_powers.ensures) c.requires)
+    (key_from l)) (sym c.of_powers.ensures) c.requires.key)
     (c.reduce.ensures ∙ ap (λ m. c.args.c % m) c.modulus.ensures)))

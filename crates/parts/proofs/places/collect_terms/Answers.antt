@@ -5,10 +5,16 @@ use Rattle.std.specs.Option.{option_map}
 use Rattle.parts.specs.Places.{powers_at}
 use Rattle.parts.specs.Keys.{key_from}
 use Rattle.parts.specs.Terms.{entry_of, finished, key_at, kept_entry}
+use Rattle.parts.proofs.LowPowers.{filled_low}
 use Rattle.parts.proofs.Finished.{none_kept, kept-zero, kept_push}
 use Rattle.parts.proofs.places.collect_terms.Goals as goal
 use Rattle.parts.proofs.places.collect_terms.Goals.{then-coefficient-ne0+then-fill_powers+else-is_err}
 use Rattle.parts.proofs.places.collect_terms.Goals.{then-coefficient-ne0+else-fill_powers, else-coefficient-ne0}
+
+pub of_powers-requires : goal.of_powers-requires
+of_powers-requires c = filled_low c.args.degree c.args.weights.now c.fill_powers.new.powers
+    (length c.args.cells.now - 1 - c.loop-k.k) (length c.args.weights.now) c.requires.positive (omega arith)
+    (c.fill_powers.ensures ∙ ap (λ b. cond b (Some c.fill_powers.new.powers) None) c.if-fill_powers.true)
 
 pub loop-k-preserved : goal.loop-k-preserved
 loop-k-preserved c = elim c.if-coefficient-ne0.branch [

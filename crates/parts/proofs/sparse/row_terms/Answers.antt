@@ -1,4 +1,4 @@
-use Rattle.std.proofs.Common.{◌≡◌, ◌+◌, ◌*◌, ◌%◌, ◌^◌, ◌<◌, ◌∙◌, ◌++◌, ap, sym, subst, arith, drop, get_or}
+use Rattle.std.proofs.Common.{◌≡◌, ◌+◌, ◌*◌, ◌%◌, ◌≤◌, ◌∙◌, ◌++◌, ap, sym, subst, arith, drop, get_or}
 use Rattle.ps_model.specs.Keys.{add_keys}
 use Rattle.ps_model.specs.Sums.{total}
 use Rattle.parts.specs.Rings.{modulus_of}
@@ -11,7 +11,7 @@ use Rattle.parts.proofs.sparse.row_terms.Goals as goal
 
 pub times-requires : goal.times-requires
 times-requires c =
-    λ i lt. subst (λ (t : Term). get_or c.args.x.now.monomial.powers i 0 + get_or t.monomial.powers i 0 < 2 ^ 16)
+    λ i lt. subst (λ (t : Term). get_or c.args.x.now.monomial.powers i 0 + get_or t.monomial.powers i 0 ≤ 4095)
     (sym c.t-item.is) (powers_fit c.args.ring c.args.left c.args.right c.args.terms.now c.args.x.now c.loop-t.t-index
     c.t-item.result
     c.requires.x_terms c.loop-t.invariant.rest (omega arith) c.requires.low i lt)

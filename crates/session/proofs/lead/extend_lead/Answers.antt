@@ -1,4 +1,4 @@
-use Rattle.std.proofs.Common.{◌≡◌, ◌+◌, ◌<◌, ◌∷◌, [], ◌++◌, length, take, sym, ◌∙◌, ap, subst, arith}
+use Rattle.std.proofs.Common.{◌≡◌, ◌+◌, ◌∷◌, [], ◌++◌, length, take, sym, ◌∙◌, ap, subst, arith}
 use Rattle.std.proofs.lemmas.List.{length_push}
 use Rattle.std.specs.Arc.{arc_value}
 use Rattle.ps_model.specs.declared.job.JobData.{JobData}

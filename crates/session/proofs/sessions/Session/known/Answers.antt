@@ -1,4 +1,4 @@
-use Rattle.std.proofs.Common.{◌≡◌, ◌+◌, ◌≤◌, length, map, sym, ◌∙◌, subst, arith}
+use Rattle.std.proofs.Common.{◌+◌, length, map, sym, subst, arith}
 use Rattle.parts.specs.RowsOfParts.{parts_of}
 use Rattle.stages.specs.States.{state_by}
 use Rattle.stages.specs.declared.stage.Stage.{Stage}

@@ -1,4 +1,4 @@
-use Rattle.std.proofs.Common.{◌≡◌, ℕ, ◌+◌, ◌<◌, ◌≤◌, length, get_or, map, take, refl, sym, ◌∙◌, subst, arith}
+use Rattle.std.proofs.Common.{◌≡◌, ◌+◌, ◌<◌, ◌≤◌, length, get_or, map, take, refl, sym, ◌∙◌, subst}
 use Rattle.ps_model.specs.declared.job.JobData.{JobData}
 use Rattle.parts.specs.JobRows.{IsPermitted}
 use Rattle.parts.specs.RowsOfParts.{parts_of}
@@ -9,6 +9,7 @@ use Rattle.stages.specs.declared.stage.Stage.{Stage}
 use Rattle.stages.proofs.LineTitles.{each_there}
 use Rattle.session.specs.Leads.{AreLeadParts}
 use Rattle.session.specs.Views.{stages_fit}
+use Rattle.session.proofs.SharedRows.{read_after, readers_same, places_same}
 use Rattle.session.proofs.Steps.{holds_after, fits_after, within_after, kept_same, none_exceeds_same, reach_within}
 use Rattle.session.proofs.sessions.Session.raise.Goals as goal
 
@@ -26,6 +27,7 @@ invariant_of-self g c =
           c.args.self.now.fits;
       reserved = λ d also. subst (λ n. d < n) (sym c.extend_lead.ensures.capacity) (c.args.self.now.reserved d
           (subst (λ (j : JobData). IsPermitted (take j.n j.weights) d) same also));
+      read = c.args.self.now.read;
     }
 
 pub returns-in_err-extend_lead-clause-within : goal.returns-in_err-extend_lead-clause-within
@@ -55,6 +57,7 @@ invariant_of-self-2 g c =
       };
       reserved = λ d also. subst (λ n. d < n) (sym c.extend_lead.ensures.capacity) (c.args.self.now.reserved d
           (subst (λ (j : JobData). IsPermitted (take j.n j.weights) d) same also));
+      read = read_after _ _ c.raise.ensures.kept _ _ _ _ (readers_same _) (places_same _) c.args.self.now.read;
     }
 
 pub returns-in_err-raise-clause-within : goal.returns-in_err-raise-clause-within

@@ -1,8 +1,0 @@
-use Rattle.std.proofs.Common.{◌≡◌, ℕ, ◌+◌, ◌<◌, length, get_or}
-use Rattle.parts.proofs.terms.added_powers.Given as goal
-
-abbrev pub invariant-loop-i : goal.invariant-loop-i
-invariant-loop-i l = record {
-  eight : length l.powers ≡ 8;
-  added : (k : ℕ) → k < l.i → get_or l.powers k 0 ≡ get_or l.x k 0 + get_or l.y k 0;
-}
