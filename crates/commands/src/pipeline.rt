@@ -83,7 +83,8 @@ fn answer_by_pipeline<T: Threads + Wait + Sync, S: Source, K: Sink, G: Gate>(
     requires readers { HasReaders
         (length (⟦<Session<RowWriter<StageItem>> as SessionView>⟧.state session.old).job.job.roots)
         (⟦<Session<RowWriter<StageItem>> as SharedSessionView>⟧.outer session.old) }
-    requires begun { (left : Option (List ℕ)) × (written : Option (List ℕ)) × (first : ℕ) × (first ≤ 2 ^ 60) × SoFar Factor lines.old
+    requires begun { (left : Option (List ℕ)) × (written : Option (List ℕ)) × (first : ℕ) × (first ≤ 2 ^ 60)
+        × SoFar Factor lines.old
         (Factors (factoring_of (⟦<Session<RowWriter<StageItem>> as SessionView>⟧.state session.old)))
         left (S.left source.old) written (K.written sink.old) first tally.old }
     ensures { (left written : Option (List ℕ)) (read wrote first : ℕ) → read ≤ S.faults source.old

@@ -7,8 +7,10 @@ ghost use Rattle.ports.specs.Faults.{Rose};
 ghost use Rattle.commands.specs.Calls.{AnswersLines, IsKnown, Outputs, StopsWithin, WritesBeginning};
 ghost use Rattle.commands.specs.Output.{IsOutput};
 ghost use Rattle.commands.specs.Runs.{Ran, status_in};
-ghost use Rattle.commands.specs.Words.{Demo, Script, asks_pipe as asks, names_workers, is_reading, usage_line, work_in, work_of};
-ghost use Rattle.commands.specs.declared.command.ScriptCommand.TheVariants.{Factor as FactorScript, Expand as ExpandScript};
+ghost use Rattle.commands.specs.Words.{Demo, Script, asks_pipe as asks, names_workers, is_reading};
+ghost use Rattle.commands.specs.Words.{usage_line, work_in, work_of};
+ghost use Rattle.commands.specs.declared.command.ScriptCommand.TheVariants.{Factor as FactorScript};
+ghost use Rattle.commands.specs.declared.command.ScriptCommand.TheVariants.{Expand as ExpandScript};
 ghost use Rattle.words.specs.declared.command.Command.TheVariants.{Factor};
 ghost use Rattle.words.specs.declared.command.Workers.TheVariants.{Rounds, Pipeline};
 

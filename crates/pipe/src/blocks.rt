@@ -99,7 +99,8 @@ fn both<R: Threads + Wait + Sync, G: Gate>(
             (map state_of my_readers.entry.now) (map state_of my_readers.exit.now)
             my_tally.entry.now my_tally.exit.now }
         ensures ok { OnOk result
-            (IsRaised (to + 1) (map work_of mine.entry.now) (map work_of mine.exit.now) (map state_of my_readers.exit.now)) }
+            (IsRaised (to + 1) (map work_of mine.entry.now) (map work_of mine.exit.now)
+            (map state_of my_readers.exit.now)) }
     { run_later(rt, gate, stop, to, mine, my_readers, my_tally) };
     let mut back = || -> Result<(), OutOfMemory>
         requires { IsSync R.row × IsSync G.row
@@ -108,7 +109,8 @@ fn both<R: Threads + Wait + Sync, G: Gate>(
             (map state_of their_readers.entry.now) (map state_of their_readers.exit.now)
             their_tally.entry.now their_tally.exit.now }
         ensures ok { OnOk result
-            (IsRaised (to + 1) (map work_of theirs.entry.now) (map work_of theirs.exit.now) (map state_of their_readers.exit.now)) }
+            (IsRaised (to + 1) (map work_of theirs.entry.now) (map work_of theirs.exit.now)
+            (map state_of their_readers.exit.now)) }
     {
         run_blocks(
             rt,

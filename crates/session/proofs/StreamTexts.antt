@@ -17,6 +17,7 @@ use Rattle.ps_model.specs.declared.job.JobData.{JobData}
 use Rattle.ps_model.proofs.JobFactors.{factors_truncated}
 use Rattle.ps_model.proofs.MonicInputs.{lead-truncated}
 use Rattle.ports.specs.Bytes.{WritesAll, WritesPart}
+use Rattle.expr_reader.specs.NameLists.{as_names}
 use Rattle.printer.specs.Texts.{view_degree_text}
 use Rattle.printer.specs.View.{HasUpTo}
 use Rattle.printer.specs.Wrote.{Wrote}
@@ -106,6 +107,15 @@ pub outcome_streams : {A E : Type 0} (names : List (List ℕ)) (job : JobData) (
 outcome_streams names job D written raised answer old new is streams fs lead are shown =
     subst (λ (r : Result _ StreamFault). Streamed r old new (stream_text (job_ring job) names lead job.roots fs D))
     (sym is) (streamed_outcome written raised (streams fs lead are shown))
+
+-- the same of a state and a sink that are as they were
+pub same_stream : {A : Type 0} (D : ℕ) (result : Result A StreamFault) (s s' : SessionState)
+    (old old' new : Option (List ℕ)) → s ≡ s' → old ≡ old'
+    → StreamsJob (as_names s.job.names) s.job.job D result old new
+    → StreamsJob (as_names s'.job.names) s'.job.job D result old' new
+same_stream D result s s' old old' new is was =
+    subst (λ (p : SessionState × Option (List ℕ)). StreamsJob (as_names p.0.job.names) p.0.job.job D result p.1 new)
+    (λ i. (is i, was i))
 
 -- the writer of a degree of what was seen
 module _ (s : SessionState) (holds : IsSession s) (fits : HasItems s) (r : ℕ) (up_to : HasUpTo (value_of s) r)

@@ -1,5 +1,5 @@
 //! A line is raised while the caller's thread writes a stream.
-ghost use Rattle.std.specs.Prelude.{◌≡◌, ◌+◌, map, OnOk};
+ghost use Rattle.std.specs.Prelude.{◌≡◌, ◌+◌, map, IfSome, None, OnOk};
 ghost use Rattle.std.specs.Thread.{IsSync, IsSend};
 ghost use Rattle.pipe.specs.Looks.{state_of};
 ghost use Rattle.pipe.specs.Pairs.{Pairwise};
@@ -22,9 +22,13 @@ use rows::{RowReader, RowWriter};
 use stages::{Line, LineView, SharedRowsView, StageItem};
 use std::marker::Sync;
 use std::sync::Wait;
-use std::sync::atomic::AtomicBool;
+use std::sync::atomic::{AtomicBool, Ordering};
 use std::thread;
 use std::thread::{Threads, join_mut};
+
+/// How often the writer looks whether the raise has begun: some ten times as often as a start takes on a
+/// machine that is busy.
+const LOOKS: u32 = 20_000;
 
 /// Raises a line to a degree, while this thread writes the stream from the readers `outer`. Where no
 /// thread can be started it is raised first.
@@ -60,15 +64,19 @@ pub(crate) fn stream_beside<T: Threads + Wait + Sync, I: RowSource, G: Gate, K: 
     ensures faults { CountsFaults result (K.faults sink.old) (K.faults sink.new) }
 {
     let stop = AtomicBool::new(false);
-    if can_start(rt) {
-        let (raised, written) = both(
-            rt, &stop, line, inner, outer, seen, input, to, workers, gate, sink, tally,
-        );
-        return outcome(written, raised);
+    let begun = AtomicBool::new(false);
+    // where no thread can be started now nobody is waited for
+    let looks = if can_start(rt) { LOOKS } else { 0 };
+    let (raised, early) = both(
+        rt, &stop, &begun, looks, line, inner, outer, seen, input, to, workers, gate, sink, tally,
+    );
+    match early {
+        Some(written) => outcome(written, raised),
+        None => {
+            let written = follow_stream(rt, &stop, outer, seen, to, sink);
+            outcome(written, raised)
+        }
     }
-    let raised = raise_line(rt, &stop, line, inner, input, to, workers, gate, tally);
-    let written = follow_stream(rt, &stop, outer, seen, to, sink);
-    outcome(written, raised)
 }
 
 /// Whether a thread can be started now.
@@ -98,10 +106,24 @@ fn outcome(
     }
 }
 
-/// The line is raised in a thread of its own.
+/// Whether the raise begins within so many looks.
+fn begins(begun: &AtomicBool, looks: u32) -> bool {
+    for _ in 0..looks {
+        if begun.load(Ordering::SeqCst) {
+            return true;
+        }
+        thread::yield_now();
+    }
+    false
+}
+
+/// The line is raised in a thread of its own. A join whose thread is refused does that work last, and
+/// tells nobody: so the writer waits for the raise to begin by so many looks, and else writes nothing.
 fn both<T: Threads + Wait + Sync, I: RowSource, G: Gate, K: Sink>(
     rt: &T,
     stop: &AtomicBool,
+    begun: &AtomicBool,
+    looks: u32,
     line: &mut Line<RowWriter<StageItem>>,
     inner: &mut [RowReader<StageItem>],
     outer: &mut [Option<RowReader<StageItem>>],
@@ -112,7 +134,7 @@ fn both<T: Threads + Wait + Sync, I: RowSource, G: Gate, K: Sink>(
     gate: &G,
     sink: &mut K,
     tally: &mut Tally,
-) -> (Result<(), OutOfMemory>, Result<(), StreamFault>)
+) -> (Result<(), OutOfMemory>, Option<Result<(), StreamFault>>)
     requires raise { let view = ⟦<Line<RowWriter<StageItem>> as LineView>⟧ in
         CanRaise (view.job line.old) (I.job input.old) to workers (view.states line.old) (map state_of inner.old)
         tally.old }
@@ -127,9 +149,10 @@ fn both<T: Threads + Wait + Sync, I: RowSource, G: Gate, K: Sink>(
         OnOk result.0 (RaisesLine (to + 1) (view.states line.old) (view.states line.new)
         (⟦<Line<RowWriter<StageItem>> as SharedRowsView>⟧.published line.new) (map state_of inner.new)) }
     ensures outer { Pairwise KeepsPlace (map place_of outer.old) (map place_of outer.new) }
-    ensures text { let job = (seen_by seen.old).job in
-        StreamsJob (as_names job.names) job.job to result.1 (K.written sink.old) (K.written sink.new) }
-    ensures faults { CountsFaults result.1 (K.faults sink.old) (K.faults sink.new) }
+    ensures text { let job = (seen_by seen.old).job in IfSome result.1 (λ done.
+        StreamsJob (as_names job.names) job.job to done (K.written sink.old) (K.written sink.new)) }
+    ensures faults { IfSome result.1 (λ done. CountsFaults done (K.faults sink.old) (K.faults sink.new)) }
+    ensures none { result.1 ≡ None → (outer.new ≡ outer.old) × (seen.new ≡ seen.old) × (sink.new ≡ sink.old) }
 {
     let mut raise = || -> Result<(), OutOfMemory>
         requires { IsSync T.row × IsSync G.row × IsSend I.row
@@ -141,15 +164,27 @@ fn both<T: Threads + Wait + Sync, I: RowSource, G: Gate, K: Sink>(
             (map state_of inner.entry.now) (map state_of inner.exit.now) tally.entry.now tally.exit.now }
         ensures raises { OnOk result (RaisesLine (to + 1) (states_in line.entry.now)
             (states_in line.exit.now) (published_in line.exit.now) (map state_of inner.exit.now)) }
-    { raise_line(rt, stop, line, inner, input, to, workers, gate, tally) };
-    let mut write = || -> Result<(), StreamFault>
+    {
+        begun.store(true, Ordering::SeqCst);
+        raise_line(rt, stop, line, inner, input, to, workers, gate, tally)
+    };
+    let mut write = || -> Option<Result<(), StreamFault>>
         requires { CanFollow to (map place_of outer.now) (seen_by seen.now) }
         ensures outer { Pairwise KeepsPlace (map place_of outer.entry.now) (map place_of outer.exit.now) }
         ensures text { let job = (seen_by seen.entry.now).job in
-            StreamsJob (as_names job.names) job.job to result (K.written sink.entry.now)
-            (K.written sink.exit.now) }
-        ensures faults { CountsFaults result (K.faults sink.entry.now) (K.faults sink.exit.now) }
-    { follow_stream(rt, stop, outer, seen, to, sink) };
+            IfSome result (λ done. StreamsJob (as_names job.names) job.job to done (K.written sink.entry.now)
+            (K.written sink.exit.now)) }
+        ensures faults { IfSome result (λ done.
+            CountsFaults done (K.faults sink.entry.now) (K.faults sink.exit.now)) }
+        ensures none { result ≡ None → (outer.exit.now ≡ outer.entry.now)
+            × (seen.exit.now ≡ seen.entry.now) × (sink.exit.now ≡ sink.entry.now) }
+    {
+        if begins(begun, looks) {
+            Some(follow_stream(rt, stop, outer, seen, to, sink))
+        } else {
+            None
+        }
+    };
     join_mut(rt, &mut raise, &mut write)
 }
 

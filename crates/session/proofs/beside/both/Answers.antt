@@ -10,7 +10,7 @@ use Rattle.session.proofs.beside.both.Given.{Over}
 use Rattle.session.proofs.beside.both.Goals as goal
 
 -- in a signature of its own, since the search tries each fact that it has
-sent : (g : Over) (κs : Lfts 24) → IsSync (param 0 g.row.T) → IsSync (param 2 g.row.G) → IsSend (param 1 g.row.I)
+sent : (g : Over) (κs : Lfts 27) → IsSync (param 0 g.row.T) → IsSync (param 2 g.row.G) → IsSend (param 1 g.row.I)
     → IsSend (arg-0-1 g.row.T g.row.I g.row.G g.row.K g.T.laws g.I.laws g.G.laws g.K.laws g.T.Threads-dict g.T.Wait-dict
     g.I.RowSource-dict g.G.Gate-dict g.K.Sink-dict κs)
 sent g κs t gate i = search (sendable, crosses, line_send, reader_send, writer_send, of_tally.the_send) depth 20
